@@ -1,16 +1,14 @@
 -- Combining permutes by the sum in 64 bits are those over whole numbers, if what stands in the room may grow.
-use Rattle.std.proofs.Common.{◌≡◌, ◌∙◌, ◌+◌, ◌<◌, ◌≤◌, refl, sym, ap, arith, ℕ, Bool, true, false, not, List, [], ◌∷◌, length, map, take, drop, zip}
-use Rattle.std.proofs.Common.{ℤ, pos, ◌+ℤ◌, IsTrue, Ok, Err, Result, count_by, filter, sum, ◌==◌}
-use Rattle.std.specs.List.{AllPass, enumerate_from}
+use Rattle.std.proofs.Common.{◌≡◌, ◌+◌, ◌≤◌, refl, ap, arith, ℕ, Bool, true, false, not, List, [], ◌∷◌, length, take, drop, zip}
+use Rattle.std.proofs.Common.{ℤ, ◌+ℤ◌, IsTrue, Ok, Err, Result, filter, sum, ◌==◌}
+use Rattle.std.specs.List.{AllPass}
 use Rattle.std.proofs.lemmas.List.{length-drop, length-map, length-take}
 use Rattle.std.proofs.lemmas.List.Elements.{All-cons, All-drop, All-filter, All-head, All-map, All-nil, All-tail, All-take}
 use Rattle.std.proofs.lemmas.List.Sums.{count_by-le-length, length-filter}
-use Rattle.std.proofs.lemmas.Slice.Zip.{length-zip}
 use Rattle.cvl_base.specs.declared.fault.Fault.{Fault}
 use Rattle.cvl_base.specs.declared.fault.FaultNo.TheVariants.{LengthMismatch}
 use Rattle.cvl_base.specs.Faults.{fault}
 use Rattle.cvl_base.specs.Elementwise.{if_as_long}
-use Rattle.cvl_base.specs.Folds.{fold_of}
 use Rattle.cvl_base.specs.Gives.{◌>>=◌, fault_if, unless}
 use Rattle.cvl_base.specs.ItemWords.{is_number}
 use Rattle.cvl_base.specs.Limits.{most_places}
@@ -33,7 +31,7 @@ sent_numbers : (sends : List (ℤ × ℤ)) (d : ℕ) → AllPass (λ p. is_numbe
 sent_numbers sends d numbers =
     All-map (λ x. IsTrue (is_number x)) (λ p. p.1) (filter (λ p. names d p.0) sends) (All-filter (λ p. names d p.0) (λ p. IsTrue (is_number p.1)) sends numbers)
 
-pub combined_same : (sends : List (ℤ × ℤ)) (lowest : ℕ) (before : List ℤ) → length sends ≤ most_places → AllPass (λ p. is_number p.1) sends → AllPass may_grow before
+combined_same : (sends : List (ℤ × ℤ)) (lowest : ℕ) (before : List ℤ) → length sends ≤ most_places → AllPass (λ p. is_number p.1) sends → AllPass may_grow before
     → combined long_sum_of sends lowest before ≡ combined ◌+ℤ◌ sends lowest before
 combined_same sends lowest [] few numbers grow = refl
 combined_same sends lowest (y ∷ before) few numbers grow =
@@ -41,23 +39,27 @@ combined_same sends lowest (y ∷ before) few numbers grow =
     let others = combined_same sends (lowest + 1) before few numbers (All-tail (λ z. IsTrue (may_grow z)) y before grow) in
     (λ t. here t ∷ others t)
 
-pub zip_numbers : (index source : List ℤ) → AllPass is_number source → AllPass (λ p. is_number p.1) (zip index source)
-zip_numbers [] source numbers = All-nil (λ p. IsTrue (is_number p.1))
-zip_numbers (i ∷ index) [] numbers = All-nil (λ p. IsTrue (is_number p.1))
-zip_numbers (i ∷ index) (x ∷ source) numbers =
-    All-cons (λ p. IsTrue (is_number p.1)) (i, x) (zip index source) (All-head (λ z. IsTrue (is_number z)) x source numbers)
-    (zip_numbers index source (All-tail (λ z. IsTrue (is_number z)) x source numbers))
+pub zip_items : {X : Type 0} (is_item : X → Bool) (index : List ℤ) (source : List X) → AllPass is_item source → AllPass (λ p. is_item p.1) (zip index source)
+zip_items is_item [] source items = All-nil (λ p. IsTrue (is_item p.1))
+zip_items is_item (i ∷ index) [] items = All-nil (λ p. IsTrue (is_item p.1))
+zip_items is_item (i ∷ index) (x ∷ source) items =
+    All-cons (λ p. IsTrue (is_item p.1)) (i, x) (zip index source) (All-head (λ z. IsTrue (is_item z)) x source items)
+    (zip_items is_item index source (All-tail (λ z. IsTrue (is_item z)) x source items))
 
-pub few_pairs : (index source : List ℤ) → length (zip index source) ≤ length index
+few_pairs : (index source : List ℤ) → length (zip index source) ≤ length index
 few_pairs [] source = omega arith
 few_pairs (i ∷ index) [] = omega arith
 few_pairs (i ∷ index) (x ∷ source) = omega (arith, few_pairs index source)
 
+pub pairs_same : (source index : List ℤ) (lowest : ℕ) (before : List ℤ) → length index ≤ most_places → AllPass is_number source → AllPass may_grow before
+    → combined long_sum_of (zip index source) lowest before ≡ combined ◌+ℤ◌ (zip index source) lowest before
+pairs_same source index lowest before few numbers grow =
+    combined_same (zip index source) lowest before (omega (arith, few, few_pairs index source)) (zip_items is_number index source numbers) grow
+
 pub combine_same : (source index before : List ℤ) → length index ≤ most_places → AllPass is_number source → AllPass may_grow before
     → combine_of long_sum_of source index before ≡ combine_of ◌+ℤ◌ source index before
 combine_same source index before few numbers grow =
-    ap (λ room. if_as_long source index (unless (first_outside 0 (length before) index) (Ok room)))
-    (combined_same (zip index source) 0 before (omega (arith, few, few_pairs index source)) (zip_numbers index source numbers) grow)
+    ap (λ room. if_as_long source index (unless (first_outside 0 (length before) index) (Ok room))) (pairs_same source index 0 before few numbers grow)
 
 -- ---- each segment
 

@@ -21,6 +21,7 @@ use Rattle.cvl_base.specs.Gives.{◌>>=◌, unless}
 use Rattle.cvl_base.specs.ItemWords.{is_number}
 use Rattle.cvl_base.specs.Limits.{most_places}
 use Rattle.cvl_base.specs.Lists.{joined}
+use Rattle.exact_combines.proofs.Same.{pairs_same}
 use Rattle.exact_combines.specs.ExactCombines.{checked_combine_of}
 use Rattle.long_sums.specs.LongLaws.{long_laws}
 use Rattle.long_sums.specs.LongSums.{long_sum_of}
@@ -28,7 +29,7 @@ use Rattle.long_sums.specs.RoomSums.{all_fitting}
 use Rattle.permute_walks.specs.Indices.{first_outside}
 use Rattle.step_laws.proofs.Answered.{is_done, is_given, within}
 use Rattle.step_laws.proofs.CombinedInRooms.{Joins, Made, as_many, joined_all, left_of_each, none_outside}
-use Rattle.step_laws.proofs.LongRooms.{all-joined, all_grow, all_long, first_grows, pairs_same}
+use Rattle.step_laws.proofs.LongRooms.{all-joined, all_grow, all_long, first_grows}
 use Rattle.step_laws.proofs.OwnGiven.{agree, passed}
 use Rattle.step_laws.proofs.Parted.{alike, alike_where, as-long, keeps, some-fewer}
 use Rattle.step_laws.proofs.RangesOfRoom.{ranges_joined}

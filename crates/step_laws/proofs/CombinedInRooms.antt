@@ -22,9 +22,10 @@ use Rattle.cvl_base.specs.Gives.{fault_if, unless}
 use Rattle.cvl_base.specs.Limits.{most_places}
 use Rattle.cvl_base.specs.Lists.{joined}
 use Rattle.cvl_base.specs.Monoid.{MonoidLaws}
+use Rattle.exact_combines.proofs.Same.{zip_items}
 use Rattle.permute_walks.specs.Indices.{first_outside}
 use Rattle.step_laws.proofs.Answered.{numbered, within}
-use Rattle.step_laws.proofs.OwnGiven.{combine_given, own_given, owns, zip_both, zip_items}
+use Rattle.step_laws.proofs.OwnGiven.{combine_given, own_given, owns, zip_both}
 use Rattle.step_laws.proofs.Parted.{alike, alike_where, all-parts, as-long, keeps}
 use Rattle.step_laws.proofs.RoomShares.{known_shares, places_of_share, shares_joined, shares_within}
 use Rattle.step_laws.specs.CombineParts.{BeginAt, Block, HaveMemory, OwnAlone, RoomAlone, Share, elements_of, index_of, room_of}

@@ -65,7 +65,6 @@ pub mod SegReduced
 pub mod SegScanned
 pub mod SegmentLengths
 pub mod SendersBySteps
-pub mod SortBlocks
 pub mod SortFinds
 pub mod SortPass
 pub mod SortPasses

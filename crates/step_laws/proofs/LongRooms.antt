@@ -1,29 +1,21 @@
--- Sums in 64 bits of a combining permute, if what stood in the room may grow, are those over whole numbers.
-use Rattle.std.proofs.Common.{◌≡◌, ◌∙◌, ◌+◌, ◌-◌, ◌<◌, ◌≤◌, ◌^◌, ◌∷◌, ◌++◌, ◌+ℤ◌, ℕ, ℤ, pos, negsuc, Bool, true, false, IsTrue, List, []}
-use Rattle.std.proofs.Common.{All, ap, arith, count_by, filter, get_or, length, map, nat_lt, refl, replicate, subst, sym, zip, None, Some, Option, Ok, Err, Result}
+-- Rooms of sums in 64 bits, in which what stands may grow, and their parts.
+use Rattle.std.proofs.Common.{◌≡◌, ◌∙◌, ◌+◌, ◌^◌, ◌∷◌, ℕ, ℤ, pos, negsuc, Bool, true, false, IsTrue, List, []}
+use Rattle.std.proofs.Common.{All, ap, arith, get_or, map, refl, None, Some, Option, Ok, Err, Result}
 use Rattle.std.proofs.lemmas.Bool.{lt-ltb, ltb-true}
-use Rattle.std.proofs.lemmas.List.{length-map}
-use Rattle.std.proofs.lemmas.List.Elements.{All-append, All-cons, All-filter, All-head, All-map, All-nil, All-tail}
-use Rattle.std.proofs.lemmas.List.Sums.{count_by-le-length, length-filter}
-use Rattle.std.proofs.lemmas.Option.{none-some, same_Some}
+use Rattle.std.proofs.lemmas.List.Elements.{All-append, All-cons, All-head, All-nil, All-tail}
+use Rattle.std.proofs.lemmas.Option.{none-some}
 use Rattle.std.specs.List.{AllPass, AllZip}
 use Rattle.std.specs.Prelude.{if◌then◌else◌}
 use Rattle.std.specs.Result.{result_ok}
-use Rattle.combining_permutes.specs.CombiningPermutes.{combine_of, combined, names, sent_there}
+use Rattle.combining_permutes.specs.CombiningPermutes.{combined}
 use Rattle.cvl_base.specs.declared.fault.Fault.{Fault}
 use Rattle.cvl_base.specs.declared.fault.FaultNo.TheVariants.{Overflow}
-use Rattle.cvl_base.specs.Elementwise.{if_as_long, values_from}
-use Rattle.cvl_base.specs.Faults.{fault_at}
-use Rattle.cvl_base.specs.Folds.{fold_of}
-use Rattle.cvl_base.specs.Gives.{◌>>=◌, unless}
+use Rattle.cvl_base.specs.Elementwise.{values_from}
+use Rattle.cvl_base.specs.Gives.{◌>>=◌}
 use Rattle.cvl_base.specs.ItemWords.{is_number}
-use Rattle.cvl_base.specs.Limits.{most_places}
 use Rattle.cvl_base.specs.Lists.{joined}
-use Rattle.long_sums.specs.LongFolds.{fold_same}
-use Rattle.long_sums.specs.LongSums.{is_long, long_sum_of, may_grow}
+use Rattle.long_sums.specs.LongSums.{is_long, may_grow}
 use Rattle.long_sums.specs.RoomSums.{all_growing, growing}
-use Rattle.permute_walks.specs.Indices.{first_outside}
-use Rattle.step_laws.proofs.OwnGiven.{zip_items}
 
 -- ---- numbers, and what may grow
 
@@ -40,40 +32,6 @@ all_grow xs numbers = λ k d lt. grows-number (get_or xs k d) (numbers k d lt)
 
 pub all_long : (xs : List ℤ) → AllPass may_grow xs → AllPass is_long xs
 all_long xs grow = λ k d lt. long-grows (get_or xs k d) (grow k d lt)
-
--- ---- one room
-
-few_sent : (sends : List (ℤ × ℤ)) (d : ℕ) → length (sent_there sends d) ≤ length sends
-few_sent sends d =
-    let own = λ (p : ℤ × ℤ). names d p.0 in
-    omega (arith, length-map (filter own sends) (λ p. p.1), length-filter own sends, count_by-le-length own sends)
-
-sent_numbers : (sends : List (ℤ × ℤ)) (d : ℕ) → AllPass (λ p. is_number p.1) sends → AllPass is_number (sent_there sends d)
-sent_numbers sends d numbers =
-    All-map (λ x. IsTrue (is_number x)) (λ p. p.1) (filter (λ p. names d p.0) sends) (All-filter (λ p. names d p.0) (λ p. IsTrue (is_number p.1)) sends numbers)
-
-pub combined_same : (sends : List (ℤ × ℤ)) (lowest : ℕ) (before : List ℤ) → length sends ≤ most_places → AllPass (λ p. is_number p.1) sends → AllPass may_grow before
-    → combined long_sum_of sends lowest before ≡ combined ◌+ℤ◌ sends lowest before
-combined_same sends lowest [] few numbers grow = refl
-combined_same sends lowest (y ∷ before) few numbers grow =
-    let here = fold_same y (sent_there sends lowest) (All-head (λ z. IsTrue (may_grow z)) y before grow) (omega (arith, few, few_sent sends lowest)) (sent_numbers sends lowest numbers) in
-    let others = combined_same sends (lowest + 1) before few numbers (All-tail (λ z. IsTrue (may_grow z)) y before grow) in
-    (λ t. here t ∷ others t)
-
-pub few_pairs : (index source : List ℤ) → length (zip index source) ≤ length index
-few_pairs [] source = omega arith
-few_pairs (i ∷ index) [] = omega arith
-few_pairs (i ∷ index) (x ∷ source) = omega (arith, few_pairs index source)
-
-pub pairs_same : (source index : List ℤ) (lowest : ℕ) (before : List ℤ) → length index ≤ most_places → AllPass is_number source → AllPass may_grow before
-    → combined long_sum_of (zip index source) lowest before ≡ combined ◌+ℤ◌ (zip index source) lowest before
-pairs_same source index lowest before few numbers grow =
-    combined_same (zip index source) lowest before (omega (arith, few, few_pairs index source)) (zip_items is_number index source numbers) grow
-
-pub combine_same : (source index before : List ℤ) → length index ≤ most_places → AllPass is_number source → AllPass may_grow before
-    → combine_of ◌+ℤ◌ source index before ≡ combine_of long_sum_of source index before
-combine_same source index before few numbers grow =
-    ap (λ room. if_as_long source index (unless (first_outside 0 (length before) index) (Ok room))) (sym (pairs_same source index 0 before few numbers grow))
 
 -- ---- a room that may grow
 

@@ -17,6 +17,7 @@ use Rattle.cvl_base.specs.Gives.{◌>>=◌, fault_if}
 use Rattle.cvl_base.specs.ItemWords.{is_number}
 use Rattle.cvl_base.specs.Limits.{most_places}
 use Rattle.cvl_base.specs.Lists.{joined}
+use Rattle.exact_combines.proofs.Same.{pairs_same}
 use Rattle.exact_combines.specs.ExactCombines.{checked_combine_of}
 use Rattle.long_sums.specs.LongLaws.{long_laws}
 use Rattle.long_sums.specs.LongSums.{long_sum_of}
@@ -24,7 +25,7 @@ use Rattle.long_sums.specs.RoomSums.{all_fitting}
 use Rattle.step_laws.proofs.ByElement.{made-elements}
 use Rattle.step_laws.proofs.CombinedInRanges.{few-fits}
 use Rattle.step_laws.proofs.CombinedInRooms.{Joins, joined_all, long, own_rooms, rooms_made}
-use Rattle.step_laws.proofs.LongRooms.{all_grow, all_long, pairs_same}
+use Rattle.step_laws.proofs.LongRooms.{all_grow, all_long}
 use Rattle.step_laws.proofs.PartCalls.{exactly}
 use Rattle.step_laws.proofs.Parted.{some-fewer}
 use Rattle.step_laws.proofs.PartFaults.{HasFault, no-value, of_part}

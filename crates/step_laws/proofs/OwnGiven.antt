@@ -1,12 +1,10 @@
 -- What it says of a part that it has made a room of its own.
-use Rattle.std.proofs.Common.{◌≡◌, ◌≢◌, ◌∙◌, ◌==◌, ◌++◌, ◌+◌, ◌≤◌, ◌∷◌, ℕ, ℤ, Bool, true, false, IsTrue, List}
+use Rattle.std.proofs.Common.{◌≡◌, ◌≢◌, ◌∙◌, ◌==◌, ◌++◌, ◌+◌, ◌≤◌, ◌∷◌, ℕ, ℤ, Bool, true, false, List}
 use Rattle.std.proofs.Common.{[], ap, arith, drop, eqb, length, length-append, map, nat_lt, not, refl, replicate, subst, sym, take, zip}
-use Rattle.std.proofs.Common.{All, Err, None, Ok, Option, Result, Some, ⊎_elim}
+use Rattle.std.proofs.Common.{Err, None, Ok, Option, Result, Some, ⊎_elim}
 use Rattle.std.proofs.lemmas.Bool.{false≢true, ltb-false}
 use Rattle.std.proofs.lemmas.Bool.Decides.{eqb_tells}
-use Rattle.std.proofs.lemmas.List.Elements.{All-cons, All-head, All-nil, All-tail}
 use Rattle.std.proofs.lemmas.Option.{none-some, same_Some}
-use Rattle.std.specs.List.{AllPass}
 use Rattle.std.specs.Result.{result_ok}
 use Rattle.c_calls.specs.Told.{done}
 use Rattle.c_calls.specs.declared.status.CvlStatus.{CvlStatus}
@@ -76,10 +74,3 @@ module _ {X : Type 0} where
   zip_both [] js (x ∷ xs) ys long = absurd (omega (arith, long))
   zip_both (i ∷ is) js [] ys long = absurd (omega (arith, long))
   zip_both (i ∷ is) js (x ∷ xs) ys long = ap (λ zs. (i, x) ∷ zs) (zip_both is js xs ys (omega (arith, long)))
-
-  pub zip_items : (is_item : X → Bool) (index : List ℤ) (source : List X) → AllPass is_item source → AllPass (λ p. is_item p.1) (zip index source)
-  zip_items is_item [] source items = All-nil (λ p. IsTrue (is_item p.1))
-  zip_items is_item (i ∷ index) [] items = All-nil (λ p. IsTrue (is_item p.1))
-  zip_items is_item (i ∷ index) (x ∷ source) items =
-      All-cons (λ p. IsTrue (is_item p.1)) (i, x) (zip index source) (All-head (λ z. IsTrue (is_item z)) x source items)
-      (zip_items is_item index source (All-tail (λ z. IsTrue (is_item z)) x source items))

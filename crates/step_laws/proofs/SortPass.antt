@@ -18,7 +18,7 @@ use Rattle.digit_partitions.specs.Ends.{digit_ends}
 use Rattle.digit_partitions.specs.Partitions.{most_digits, partitioned}
 use Rattle.digit_partitions.specs.Pieces.{IsCut}
 use Rattle.sort_parts.specs.Cuts.{IsCutBetween, fits_parts}
-use Rattle.stable_sorts.proofs.InParts.{pass_sorts}
+use Rattle.stable_sorts.proofs.InParts.{cut_at_ends, length-ends, pass_sorts}
 use Rattle.stable_sorts.specs.InParts.{blocks_by_digit, ends_of_blocks, gathered}
 use Rattle.stable_sorts.specs.Keys.{above_least}
 use Rattle.stable_sorts.specs.Passes.{by_digit}
@@ -26,7 +26,6 @@ use Rattle.stable_sorts.specs.Steps.{IsBlock, digit_of_pass}
 use Rattle.step_laws.proofs.AnyOrder.{in_any_order}
 use Rattle.step_laws.proofs.Answered.{within}
 use Rattle.step_laws.proofs.Parted.{alike}
-use Rattle.step_laws.proofs.SortBlocks.{cut_at_ends, length-ends}
 use Rattle.step_laws.proofs.SortPieces.{gathered_all}
 use Rattle.step_laws.specs.SortParts.{HasBlock, PassPart, SharesAlone, blocks_of, ends_of, places_from, result_of, whole_of}
 use Rattle.step_laws.specs.SortSteps.{Blocks, Gathers, IsPassBySteps}

@@ -6,9 +6,8 @@ use Rattle.std.specs.List.Sorted.{IsPermutation}
 use Rattle.cvl_base.specs.Limits.{most_places}
 use Rattle.orders.proofs.Ranks.{IsPermutation-stably_sorted}
 use Rattle.orders.proofs.TwoOrders.{less_number}
-use Rattle.orders.specs.StableSorts.{stably_sorted}
 use Rattle.stable_sorts.proofs.Alike.{alike_stay}
-use Rattle.stable_sorts.proofs.KeyDigits.{all_digits, lowest, no_digit, one_digit_more}
+use Rattle.stable_sorts.proofs.InParts.{three_passes}
 use Rattle.stable_sorts.specs.Keys.{sorted_by_key}
 use Rattle.stable_sorts.specs.Passes.{by_digit}
 use Rattle.stable_sorts.specs.Steps.{digit_of_pass}
@@ -67,16 +66,9 @@ module _ {X : Type 0} (key : X → ℤ) where
             ap (λ t. by_passes (cond t (pass ∷ filter made passes) (filter made passes)) xs) is ∙ stays
             ∙ ap (by_passes passes) (sym (alike_stay key (11 * pass) 11 (common pass) xs (digits pass) (shared pass below is)))
 
-  -- the passes by all digits
-  three_passes : (xs : List X) → All (λ x. FitsSigned w32 (key x)) xs → by_passes (0 ∷ 1 ∷ 2 ∷ []) xs ≡ sorted_by_key key xs
-  three_passes xs fit =
-      let one : by_pass 0 xs ≡ stably_sorted (less_number (lowest key 11)) xs = ap (by_pass 0) (sym (no_digit key xs)) ∙ one_digit_more key 0 11 xs in
-      ap (λ ys. by_pass 2 (by_pass 1 ys)) one ∙ ap (by_pass 2) (one_digit_more key 11 11 xs) ∙ one_digit_more key 22 11 xs
-      ∙ all_digits key 33 (omega arith) xs fit
-
   pub passes_sort : (made : ℕ → Bool) (common : ℕ → ℕ) → ((pass : ℕ) → common pass < 2048) → (xs after : List X) → length xs ≤ most_places
       → All (λ x. FitsSigned w32 (key x)) xs → HaveCommon made common xs → ByPasses key (filter made (0 ∷ 1 ∷ 2 ∷ [])) xs after → after ≡ sorted_by_key key xs
   passes_sort made common digits xs after few fit shared passes =
       let all : ArePasses (0 ∷ 1 ∷ 2 ∷ []) = (omega arith, (omega arith, (omega arith, tt))) in
       run (filter made (0 ∷ 1 ∷ 2 ∷ [])) (some_passes made (0 ∷ 1 ∷ 2 ∷ []) all) xs after few passes
-      ∙ left_out made common digits (0 ∷ 1 ∷ 2 ∷ []) all xs shared ∙ three_passes xs fit
+      ∙ left_out made common digits (0 ∷ 1 ∷ 2 ∷ []) all xs shared ∙ three_passes key xs fit

@@ -19,6 +19,7 @@ use Rattle.cvl_base.specs.Gives.{◌>>=◌, unless}
 use Rattle.cvl_base.specs.ItemWords.{is_number}
 use Rattle.cvl_base.specs.Limits.{most_places}
 use Rattle.cvl_base.specs.Lists.{joined}
+use Rattle.exact_combines.proofs.Same.{combine_same, pairs_same}
 use Rattle.exact_combines.specs.ExactCombines.{exact_sums_of}
 use Rattle.long_sums.specs.LongLaws.{long_laws}
 use Rattle.long_sums.specs.LongSums.{is_long, long_sum_of, may_grow}
@@ -28,7 +29,7 @@ use Rattle.permute_walks.specs.Indices.{first_outside}
 use Rattle.step_laws.proofs.Answered.{is_given, within}
 use Rattle.step_laws.proofs.CombinedInRanges.{few-fits}
 use Rattle.step_laws.proofs.CombinedInRooms.{Joins, Made, as_many, joined_all, left_of_each, none_outside}
-use Rattle.step_laws.proofs.LongRooms.{all-joined, all-same, all_growing-grow, all_grow, all_long, combine_same, grows_all, none-sent, pairs_same}
+use Rattle.step_laws.proofs.LongRooms.{all-joined, all-same, all_growing-grow, all_grow, all_long, grows_all, none-sent}
 use Rattle.step_laws.proofs.OwnGiven.{passed}
 use Rattle.step_laws.proofs.Parted.{all-parts, alike_where, as-long, each-also, each-where, some-fewer}
 use Rattle.step_laws.proofs.RangesOfRoom.{ranges_joined}
@@ -84,7 +85,7 @@ own_same : (places memory : ℕ) (source index : List ℤ) → length index ≤ 
     → own_room_of ◌+ℤ◌ (pos 0) places memory source index ≡ own_room_of long_sum_of (pos 0) places memory source index
 own_same places memory source index few numbers =
     ap (λ call. may_own places (length source) (length index) memory >>= λ _. call)
-    (combine_same source index (replicate places (pos 0)) few numbers (All-replicate (λ z. IsTrue (may_grow z)) places (pos 0) refl))
+    (sym (combine_same source index (replicate places (pos 0)) few numbers (All-replicate (λ z. IsTrue (may_grow z)) places (pos 0) refl)))
 
 numbers_of_each : (blocks : List (Block ℤ ℤ)) → All (All (λ x. is_number x ≡ true)) (map (λ b. b.elements) blocks) → All (λ b. AllPass is_number b.elements) blocks
 numbers_of_each [] numbers = All-nil (λ (b : Block ℤ ℤ). AllPass is_number b.elements)

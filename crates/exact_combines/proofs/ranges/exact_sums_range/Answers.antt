@@ -1,7 +1,7 @@
-use Rattle.std.proofs.Common.{◌∙◌, ap, arith, map-id, zip}
+use Rattle.std.proofs.Common.{◌∙◌, ap, map-id, zip}
 use Rattle.combining_permutes.specs.CombiningPermutes.{combined}
 use Rattle.long_sums.specs.LongSums.{long_sum_of}
-use Rattle.exact_combines.proofs.Same.{combined_same, few_pairs, zip_numbers}
+use Rattle.exact_combines.proofs.Same.{pairs_same}
 use Rattle.exact_combines.proofs.ranges.exact_sums_range.Goals as goal
 
 pub returns-clause-joined : goal.returns-clause-joined
@@ -10,5 +10,4 @@ returns-clause-joined c =
     let index = c.args.index.now in
     c.combine_range.ensures.joined
     ∙ ap (λ xs. combined long_sum_of (zip index xs) c.args.lowest c.args.out.now) (map-id source)
-    ∙ combined_same (zip index source) c.args.lowest c.args.out.now (omega (arith, c.requires.in_limit, few_pairs index source)) (zip_numbers index source c.know_numbers.ensures)
-    c.requires.growing
+    ∙ pairs_same source index c.args.lowest c.args.out.now c.requires.in_limit c.know_numbers.ensures c.requires.growing
