@@ -1,5 +1,5 @@
 -- Texts that are appended one by one with a space before each, and then put in brackets.
-use Rattle.std.proofs.Common.{◌≡◌, ℕ, suc, ◌+◌, ◌≤◌, ◌<◌, List, [], ◌∷◌, ◌++◌, length, map, sum, take, drop, sym, ap, ◌∙◌, arith, append_assoc, append-nil, slice_set, ℤ, unsigned_abs}
+use Rattle.std.proofs.Common.{◌≡◌, ℕ, suc, ◌+◌, ◌≤◌, ◌<◌, List, [], ◌∷◌, ◌++◌, length, map, sum, take, drop, refl, sym, ap, ◌∙◌, arith, append_assoc, append-nil, slice_set, ℤ, unsigned_abs}
 use Rattle.std.specs.List.{join_with_byte}
 use Rattle.std.proofs.lemmas.List.{take_all, length-drop, drop-drop, set_split}
 use Rattle.cvl_base.specs.Nests.{cut_of}
@@ -45,6 +45,11 @@ pub record IsUnderway {X : Type 0} (f : X → List ℕ) (old all text : List ℕ
   pub whole : text ++ spaced (vector_text f) (cut_of (map unsigned_abs lengths) xs) ≡ all
   pub begins : take (length old) text ≡ old
   pub total : sum (map unsigned_abs lengths) ≡ length xs
+
+-- nothing is written yet
+pub underway : {X : Type 0} (f : X → List ℕ) (old : List ℕ) (lengths : List ℤ) (xs : List X) → sum (map unsigned_abs lengths) ≡ length xs
+    → IsUnderway f old (old ++ spaced (vector_text f) (cut_of (map unsigned_abs lengths) xs)) old lengths xs
+underway f old lengths xs total = record { whole = refl; begins = take_all (length old) old (omega arith); total = total }
 
 module _ {X : Type 0} {f : X → List ℕ} {old all text : List ℕ} {left : List ℤ} {rest : List X} (is : IsUnderway f old all text left rest) where
   pub none_left : left ≡ [] → text ≡ all

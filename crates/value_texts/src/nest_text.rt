@@ -35,7 +35,7 @@ fn put_brackets<T: Written, A: Allocator>(
 
 /// Appends the texts of the segments with a space before each, by the thread that calls. After a refusal the text begins as
 /// before.
-#[tactic(auto, using(crate::proofs::NestWalk::none_left))]
+#[tactic(auto, using(crate::proofs::NestWalk::none_left, crate::proofs::NestWalk::segment_within, crate::proofs::NestWalk::underway))]
 fn put_segments_alone<T: Written, A: Allocator>(
     lengths: &[i32],
     xs: &[T],
@@ -76,7 +76,7 @@ pub(crate) fn put_nest_alone<T: Written, A: Allocator>(
 
 /// Appends the texts of the segments with a space before each, in turn, and of long ones by as many threads as pay. After a
 /// refusal the text begins as before.
-#[tactic(auto, using(crate::proofs::NestWalk::none_left))]
+#[tactic(auto, using(crate::proofs::NestWalk::none_left, crate::proofs::NestWalk::segment_within, crate::proofs::NestWalk::underway))]
 fn put_segments_in_turn<R: Threads + Sync, T: Written + Sync, A: Memory>(
     rt: &R,
     alloc: A,
