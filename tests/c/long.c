@@ -51,10 +51,9 @@ static bool permutes(const Row *row) {
     }
 }
 
-/* The starts and the lengths of the segments of each descriptor that a call makes: a distribute, an index, and a permute that is not simple. */
+/* The starts and the lengths of the segments of each descriptor that a call makes: a permute that is not simple. */
 static size_t descriptors_of(const Row *row) {
-    const bool makes = row->model == SEG_DISTRIBUTE || row->model == SEG_INDEX || row->model == SEG_SELECT_PERMUTE ||
-        row->model == SEG_DEFAULT_PERMUTE;
+    const bool makes = row->model == SEG_SELECT_PERMUTE || row->model == SEG_DEFAULT_PERMUTE;
     size_t count = 0;
     for (size_t k = 0; k < count_of(row) && makes; k++) count += role_of(row, k) == ROLE_LENGTHS;
     return count * segments * 2 * sizeof(int32_t);
@@ -98,7 +97,7 @@ static size_t memory_of(const Row *row) {
     case SEG_DEFAULT_PERMUTE: return descriptors_of(row) + (cut_up ? sizeof(uint32_t) * n : marks);
     case REPLACE:
     case SEG_REPLACE: return !cut_up && item == 1 ? 0 : item * n;
-    case TELL_NUMBERS: return 3 * segments * sizeof(int32_t); /* numbers, and the descriptor by which they are distributed */
+    case TELL_NUMBERS: return segments * sizeof(int32_t); /* the number of each segment */
     case SPARSE_PRODUCT_BY_OFFSETS:
     case CHECKED_SPARSE_PRODUCT_BY_OFFSETS: return 2 * item * segments; /* the rows' lengths, too */
     case SEG_EXTRACT:

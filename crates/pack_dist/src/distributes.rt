@@ -6,7 +6,7 @@ ghost use Rattle.cvl_base.specs.Gives.{Gives};
 ghost use Rattle.cvl_base.specs.Limits.{most_elements, most_places};
 ghost use Rattle.cvl_base.specs.Lists.{joined};
 ghost use Rattle.cvl_base.specs.Rooms.{Overwrites, in_room};
-ghost use Rattle.cvl_base.specs.SegmentedCalls.{seg_distribute_of, seg_distribute_within};
+ghost use Rattle.cvl_base.specs.SegmentedCalls.{seg_distribute_of};
 ghost use Rattle.fresh.specs.Places.{stretch};
 ghost use Rattle.pack_dist.specs.Lists.{copies_of};
 
@@ -70,43 +70,26 @@ pub fn seg_distribute<T: Copy + Send + Sync, R: Threads + Sync, A: Memory>(
     ensures values { Gives (λ v. v.items) result (seg_distribute_of values.now d.now) }
     ensures as_long { IfOk result (λ v. vec_len v ≡ sum d.now) }
 {
-    let (copies, total) = segment_copies(values, d, MOST_ELEMENTS)?;
+    let (copies, total) = segment_copies(values, d)?;
     Ok(write_vector(rt, alloc, config, &copies, total, total)?)
 }
 
-/// [`seg_distribute`] into the caller's room, on the calling thread: `LengthMismatch`, without a place, if the room is not as
-/// long as the segments together, at most 2,147,483,647 elements, which is checked last. It takes no memory.
-pub fn seg_distribute_over<T: Copy, A: Allocator>(
-    values: &[T],
-    d: &SegDes<A>,
-    out: &mut [T],
-) -> Result<(), Fault>
-    ensures { Overwrites (in_room (length out.old) (seg_distribute_within most_places values.now d.now)) result out.old out.new }
-{
-    // its contract bounds the total
-    let _total = d.total();
-    let (copies, total) = segment_copies(values, d, MOST_PLACES)?;
-    write_room(&copies, total, out)
-}
-
 /// The copies of the segments' values and their number: `LengthMismatch`, without a place, if there isn't one value for each
-/// segment. The segments have at most `most` elements together.
+/// segment.
 fn segment_copies<'a, T: Copy, A: Allocator>(
     values: &'a [T],
     d: &'a SegDes<A>,
-    most: usize,
 ) -> Result<(EndToEnd<SegmentCopies<'a, T, A>>, usize), Fault>
-    requires { sum d.now ≤ most }
+    requires { sum d.now ≤ most_elements }
     ensures values { MatchResult result
-        (λ made. seg_distribute_within most values.now d.now
+        (λ made. seg_distribute_of values.now d.now
         ≡ Ok (joined (copies_of made.0.segments.values.now made.0.segments.d.now)))
-        (λ f. seg_distribute_within most values.now d.now ≡ Err f) }
+        (λ f. seg_distribute_of values.now d.now ≡ Err f) }
     ensures items { IfOk result (λ made. made.1 ≡ length (joined (copies_of made.0.segments.values.now made.0.segments.d.now))) }
     ensures total { IfOk result (λ made. (made.1 ≡ sum d.now) × (made.1 ≤ most_places)) }
 {
     check_agree(values.len(), d.count())?;
     let total = d.total();
-    prove!(total <= most);
     let copies = EndToEnd {
         segments: SegmentCopies { values, d },
     };

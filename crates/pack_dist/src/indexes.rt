@@ -7,7 +7,7 @@ ghost use Rattle.cvl_base.specs.Gives.{Gives};
 ghost use Rattle.cvl_base.specs.Limits.{most_elements, most_places};
 ghost use Rattle.cvl_base.specs.Lists.{joined};
 ghost use Rattle.cvl_base.specs.Rooms.{Overwrites, in_room};
-ghost use Rattle.cvl_base.specs.SegmentedCalls.{seg_index_of, seg_index_within};
+ghost use Rattle.cvl_base.specs.SegmentedCalls.{seg_index_of};
 ghost use Rattle.fresh.specs.Places.{stretch};
 ghost use Rattle.pack_dist.specs.Lists.{progressions_of};
 ghost use Rattle.pack_dist.specs.Progressions.{numbers_from};
@@ -76,40 +76,22 @@ pub fn seg_index<R: Threads + Sync, A: Memory>(
     ensures values { Gives (λ v. v.items) result (seg_index_of inits.now strides.now d.now) }
     ensures as_long { IfOk result (λ v. vec_len v ≡ sum d.now) }
 {
-    let (numbers, total) = segment_progressions(inits, strides, d, MOST_ELEMENTS)?;
+    let (numbers, total) = segment_progressions(inits, strides, d)?;
     Ok(write_vector(rt, alloc, config, &numbers, total, total)?)
 }
 
-/// [`seg_index`] into the caller's room, on the calling thread: `LengthMismatch`, without a place, if the room is not as long as
-/// the segments together, at most 2,147,483,647 places, which is checked last. It takes no memory.
-pub fn seg_index_over<A: Allocator>(
-    inits: &[i32],
-    strides: &[i32],
-    d: &SegDes<A>,
-    out: &mut [i32],
-) -> Result<(), Fault>
-    ensures { Overwrites (in_room (length out.old) (seg_index_within most_places inits.now strides.now d.now))
-        result out.old out.new }
-{
-    // its contract bounds the total
-    let _total = d.total();
-    let (numbers, total) = segment_progressions(inits, strides, d, MOST_PLACES)?;
-    write_room(&numbers, total, out)
-}
-
 /// The numbers of the segments and how many they are: `LengthMismatch`, without a place, if there aren't one init and one stride
-/// for each segment. The segments have at most `most` elements together.
+/// for each segment.
 fn segment_progressions<'a, A: Allocator>(
     inits: &'a [i32],
     strides: &'a [i32],
     d: &'a SegDes<A>,
-    most: usize,
 ) -> Result<(EndToEnd<SegmentProgressions<'a, A>>, usize), Fault>
-    requires { sum d.now ≤ most }
+    requires { sum d.now ≤ most_elements }
     ensures values { MatchResult result
-        (λ made. seg_index_within most inits.now strides.now d.now ≡ Ok (joined
+        (λ made. seg_index_of inits.now strides.now d.now ≡ Ok (joined
         (progressions_of made.0.segments.inits.now made.0.segments.strides.now made.0.segments.d.now)))
-        (λ f. seg_index_within most inits.now strides.now d.now ≡ Err f) }
+        (λ f. seg_index_of inits.now strides.now d.now ≡ Err f) }
     ensures items { IfOk result (λ made. made.1 ≡ length (joined
         (progressions_of made.0.segments.inits.now made.0.segments.strides.now made.0.segments.d.now))) }
     ensures total { IfOk result (λ made. (made.1 ≡ sum d.now) × (made.1 ≤ most_places)) }
@@ -117,7 +99,6 @@ fn segment_progressions<'a, A: Allocator>(
     check_agree(inits.len(), strides.len())?;
     check_agree(inits.len(), d.count())?;
     let total = d.total();
-    prove!(total <= most);
     let numbers = EndToEnd {
         segments: SegmentProgressions { inits, strides, d },
     };

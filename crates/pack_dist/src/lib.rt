@@ -17,9 +17,9 @@ mod segment_packs;
 mod writes;
 
 pub use counts::{count_true, seg_count};
-pub use distributes::{distribute, distribute_over, seg_distribute, seg_distribute_over};
+pub use distributes::{distribute, distribute_over, seg_distribute};
 pub use extracts::{extract, seg_extract};
-pub use indexes::{index, index_over, seg_index, seg_index_over};
+pub use indexes::{index, index_over, seg_index};
 pub use packs::{pack, pack_over};
 pub use replaces::{replace, seg_replace};
 pub use segment_packs::{packed_descriptor, seg_pack, seg_pack_values, seg_pack_values_over};

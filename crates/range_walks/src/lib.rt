@@ -15,9 +15,10 @@ pub mod readings;
 mod segment_sums;
 mod short_reduces;
 mod short_scans;
-mod short_segments;
+pub mod short_segments;
 
 pub use plain::{scan_into, scan_vec, sum_from};
 pub use range_parts::parts_of_range;
 pub use ranges::{reduces_into, scan_range_into, scans_into, seg_reduces_into, sum_of_range};
 pub use readings::{Itself, Reading};
+pub use short_segments::are_short_and_uneven;

@@ -18,7 +18,7 @@ use crate::readings::Reading;
 use crate::segment_sums::sum_of_segment;
 use crate::short_reduces::reduces_of_groups;
 use crate::short_scans::scans_of_groups;
-use crate::short_segments::groups_pay;
+use crate::short_segments::are_short_and_uneven;
 use cvl_base::Monoid;
 use cvl_base::monoid::know_laws;
 use fresh::Run;
@@ -44,7 +44,7 @@ pub fn scans_into<M: Monoid, X: Copy, E: Reading<X, M::Item>>(
     requires items { AllPass (λ x. M.is_item (E.item x)) xs.now }
     ensures { result ≡ with_items run (scans_of M.join M.unit (map unsigned_abs lengths.now) (map E.item xs.now)) }
 {
-    if groups_pay(lengths, xs.len()) {
+    if are_short_and_uneven(lengths, xs.len()) {
         return scans_of_groups::<M, X, E>(run, lengths, xs);
     }
     scans_in_turn::<M, X, E>(run, lengths, xs)
@@ -91,7 +91,7 @@ pub fn reduces_into<M: Monoid, X: Copy, E: Reading<X, M::Item>>(
     requires items { AllPass (λ x. M.is_item (E.item x)) xs.now }
     ensures { result ≡ with_items run (reduces_of M.join M.unit (map unsigned_abs lengths.now) (map E.item xs.now)) }
 {
-    if groups_pay(lengths, xs.len()) {
+    if are_short_and_uneven(lengths, xs.len()) {
         return reduces_of_groups::<M, X, E>(run, lengths, xs);
     }
     reduces_in_turn::<M, X, E>(run, lengths, xs)

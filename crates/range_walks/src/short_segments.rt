@@ -1,6 +1,6 @@
-//! When short segments are walked many at once. A loop over each of them ends where the processor does not expect it if their
-//! lengths differ, which takes longer than the elements do. So `short_scans` and `short_reduces` have one loop over the elements
-//! of many segments, which keeps a sum for each of them.
+//! Short segments of uneven lengths. A loop over each of them ends where the processor does not expect it, which takes longer
+//! than the elements do. So `short_scans` and `short_reduces` have one loop over the elements of many segments, which keeps a sum
+//! for each of them.
 
 ghost use Rattle.std.specs.Prelude.{◌≡◌, map, sum, unsigned_abs};
 ghost use Rattle.cvl_base.specs.Descriptors.{AreLengthsWithin};
@@ -30,10 +30,10 @@ fn vary(lengths: &[i32]) -> bool {
     changes as usize > lengths.len() / 4
 }
 
-/// Whether the segments are walked many at once: they have at most eight elements on average, all or the first ones, and their
-/// lengths vary, so that the processor does not foresee where each ends. The first and the last segments show that. More elements
-/// may be counted than the segments have.
-pub(crate) fn groups_pay(lengths: &[i32], elements: usize) -> bool
+/// Whether segments with these lengths are short and uneven: they have at most eight elements on average, all or the first ones,
+/// and their lengths vary, so that the processor does not foresee where each ends. The first and the last segments show that.
+/// `elements` is how many they have together, or more. Nothing is claimed of the answer, which only decides how fast a walk is.
+pub fn are_short_and_uneven(lengths: &[i32], elements: usize) -> bool
     requires { AreLengthsWithin most_places lengths.now }
 {
     if lengths.len() < FEW {

@@ -1,3 +1,5 @@
+pub mod Filled
 pub mod Numbered
 pub mod Parts
+pub mod WrittenFronts
 pub mod Written

@@ -1,10 +1,10 @@
 -- The numbers of a part, as they are written.
 use Rattle.std.proofs.Common.{◌≡◌, ◌≢◌, ◌==◌, ◌&&◌, ◌++◌, ◌+◌, ◌-◌, ◌<◌, ◌≤◌, ◌∙◌, ℕ, zero, suc, ℤ, pos, ◌+ℤ◌, ◌*ℤ◌, true, not, Ok, List, [], ◌∷◌, length, take, drop, get_or}
-use Rattle.std.proofs.Common.{min, sum, zip, refl, sym, ap, arith}
+use Rattle.std.proofs.Common.{sum, zip, refl, sym, ap, arith}
 use Rattle.std.proofs.Common.{length-drop, take_all}
 use Rattle.std.proofs.Math.IntN.{+ℤ_idr, zero-*ℤ}
 use Rattle.std.proofs.lemmas.Bool.{and_from, eq-eqb, le-ltb}
-use Rattle.std.proofs.lemmas.List.{drop-append-le, drop_more, length-take, take_min}
+use Rattle.std.proofs.lemmas.List.{drop-append-le, drop_more, length-take}
 use Rattle.std.proofs.lemmas.Slice.Zip.{length-zip}
 use Rattle.cvl_base.specs.declared.fault.FaultNo.TheVariants as no
 use Rattle.cvl_base.specs.Faults.{fault}
@@ -12,7 +12,6 @@ use Rattle.cvl_base.specs.Gives.{fault_if}
 use Rattle.cvl_base.specs.Integers.{wrap}
 use Rattle.cvl_base.specs.Limits.{most_places}
 use Rattle.cvl_base.specs.Lists.{joined}
-use Rattle.fresh.specs.Places.{Stretch, stretch, with_items}
 use Rattle.pack_dist.proofs.Distributed.{lists-whole, numbers, progression-long}
 use Rattle.pack_dist.proofs.Progressed.{progression-part}
 use Rattle.pack_dist.specs.Lists.{progressions_of}
@@ -25,16 +24,6 @@ use Rattle.segment_fills.specs.Numbers.{numbers_in_part, part_index_of}
 -- the first number
 pub first-number : (init stride next : ℤ) → next ≡ wrap init → next ≡ wrap (init +ℤ pos 0 *ℤ stride)
 first-number init stride next is = is ∙ ap wrap (sym (ap (λ z. init +ℤ z) (zero-*ℤ stride) ∙ +ℤ_idr init))
-
--- numbers as far as there is room
-pub numbers-cut : (room n count : ℕ) (init stride : ℤ) → count ≡ min n room → progression init stride count ≡ take room (progression init stride n)
-numbers-cut room n count init stride is =
-    let few : min room (length (progression init stride n)) ≡ count = omega (arith, is, progression-long init stride n) in
-    sym (progression-part init stride n 0 count (omega (arith, is))) ∙ ap (λ k. take k (progression init stride n)) (sym few) ∙ take_min room (progression init stride n)
-
-pub numbers_written : (run : Stretch ℤ) (count : ℕ) (init stride : ℤ)
-    → stretch run.block run.first (run.items ++ progression init stride count) (run.room - count) ≡ with_items run (progression init stride count)
-numbers_written run count init stride = ap (λ k. stretch run.block run.first (run.items ++ progression init stride count) (run.room - k)) (sym (progression-long init stride count))
 
 -- the numbers of one more segment
 pub numbers-of-more : (inits strides : List ℤ) (lengths : List ℕ) (s : ℕ) → s < length inits → s < length strides → s < length lengths

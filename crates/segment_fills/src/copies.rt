@@ -1,16 +1,16 @@
 //! Copies of the values of a part's segments.
 
-ghost use Rattle.std.specs.Prelude.{◌≡◌, ◌≢◌, ◌≤◌, [], drop, length, map, replicate, slice_index_or, sum, take, unsigned_abs};
+ghost use Rattle.std.specs.Prelude.{◌≡◌, ◌≢◌, ◌≤◌, drop, length, map, replicate, slice_index_or, sum, take, unsigned_abs};
 ghost use Rattle.cvl_base.specs.Descriptors.{AreLengthsWithin};
 ghost use Rattle.cvl_base.specs.Limits.{most_places};
 ghost use Rattle.cvl_base.specs.Lists.{joined};
 ghost use Rattle.cvl_base.specs.Rooms.{Overwrites};
-ghost use Rattle.fresh.specs.Places.{with_items};
 ghost use Rattle.pack_dist.specs.Lists.{copies_of};
 ghost use Rattle.segment_fills.specs.Fills.{is_part_with, part_distribute_of};
 
+use crate::fronts::{Copies, EightAtOnce, Fronts, OneByOne};
 use cvl_base::{Fault, FaultNo};
-use fresh::{Run, fill_slice};
+use range_walks::are_short_and_uneven;
 use segdes::SegLengths;
 use segment_parts::is_part;
 
@@ -77,32 +77,33 @@ fn fill_by<T: Copy>(value: T, room: &mut [T])
 }
 
 /// Fills a room by a value for each of these lengths, as often as the length says, up to the end of the room.
-fn fill_starts<T: Copy>(lengths: &[i32], values: &[T], room: &mut [T])
+pub(crate) fn fill_starts<T: Copy>(lengths: &[i32], values: &[T], room: &mut [T])
     requires lengths { AreLengthsWithin most_places lengths.now }
     requires one_each { length values.now ≡ length lengths.now }
     requires covered { length room.old ≤ sum (map unsigned_abs lengths.now) }
+    requires fits { length room.old ≤ most_places }
     ensures { room.new ≡ take (length room.old) (joined (copies_of values.now (map unsigned_abs lengths.now))) }
 {
-    fill_slice(
-        room,
-        |run: Run<T>| -> Run<T>
-            requires { (run.items ≡ []) × AreLengthsWithin most_places lengths.now × (length values.now ≡ length lengths.now) }
-            ensures { result ≡ with_items run
-                (take run.room (joined (copies_of values.entry.now (map unsigned_abs lengths.entry.now)))) }
-        { copies_of_starts(run, lengths, values) },
-    );
+    if are_short_and_uneven(lengths, room.len()) {
+        copies_by::<T, EightAtOnce>(lengths, values, room);
+    } else {
+        copies_by::<T, OneByOne>(lengths, values, room);
+    }
 }
 
-/// Writes a value for each of these lengths, as often as the length says, up to the end of the run.
-fn copies_of_starts<T: Copy>(run: Run<T>, lengths: &[i32], values: &[T]) -> Run<T>
+/// The same, each segment in this way.
+#[inline(never)]
+fn copies_by<T: Copy, W: Fronts>(lengths: &[i32], values: &[T], room: &mut [T])
     requires lengths { AreLengthsWithin most_places lengths.now }
     requires one_each { length values.now ≡ length lengths.now }
-    ensures { result ≡ with_items run (take run.room (joined (copies_of values.now (map unsigned_abs lengths.now)))) }
+    requires covered { length room.old ≤ sum (map unsigned_abs lengths.now) }
+    requires fits { length room.old ≤ most_places }
+    ensures { room.new ≡ take (length room.old) (joined (copies_of values.now (map unsigned_abs lengths.now))) }
 {
-    let mut run = run;
+    let mut first = 0;
     for s in 0..lengths.len() {
-        let count = (lengths[s] as usize).min(run.room());
-        run = run.push_copies(values[s], count);
+        let end = (first + lengths[s] as usize).min(room.len());
+        W::write(room, first, end, &Copies { value: values[s] });
+        first = end;
     }
-    run
 }

@@ -1,20 +1,20 @@
 //! Numbers of a part's segments, from a first one on in equal steps.
 
-ghost use Rattle.std.specs.Prelude.{◌≡◌, ◌≢◌, ◌≤◌, ◌<◌, ◌^◌, ◌-◌, ◌++◌, [], drop, length, map, pos, slice_index_or};
+ghost use Rattle.std.specs.Prelude.{◌≡◌, ◌≢◌, ◌≤◌, ◌<◌, ◌^◌, drop, length, map, pos, slice_index_or};
 ghost use Rattle.std.specs.Prelude.{sum, take, unsigned_abs};
 ghost use Rattle.cvl_base.specs.Descriptors.{AreLengthsWithin};
 ghost use Rattle.cvl_base.specs.Limits.{most_places};
 ghost use Rattle.cvl_base.specs.Lists.{joined};
 ghost use Rattle.cvl_base.specs.Rooms.{Overwrites};
-ghost use Rattle.fresh.specs.Places.{stretch, with_items};
 ghost use Rattle.pack_dist.specs.Lists.{progressions_of};
-ghost use Rattle.pack_dist.specs.Progressions.{numbers_from, progression};
+ghost use Rattle.pack_dist.specs.Progressions.{numbers_from};
 ghost use Rattle.segment_fills.specs.Numbers.{numbers_after_of, part_index_of};
 
 use crate::copies::is_part_with;
+use crate::fronts::{EightAtOnce, Fronts, OneByOne, Steps};
 use cvl_base::limits::MOST_PLACES;
 use cvl_base::{Fault, FaultNo};
-use fresh::{Run, fill_slice};
+use range_walks::are_short_and_uneven;
 use segdes::SegLengths;
 
 /// Writes the numbers of a part's segments: those of a segment begin with its init and go on in steps of its stride, each wrapped
@@ -111,51 +111,37 @@ fn number_by(init: &i32, stride: &i32, from: usize, room: &mut [i32])
 }
 
 /// Fills a room by the numbers of each segment with these lengths, up to the end of the room.
-fn number_starts(lengths: &[i32], inits: &[i32], strides: &[i32], room: &mut [i32])
+pub(crate) fn number_starts(lengths: &[i32], inits: &[i32], strides: &[i32], room: &mut [i32])
     requires lengths { AreLengthsWithin most_places lengths.now }
     requires inits { length inits.now ≡ length lengths.now }
     requires strides { length strides.now ≡ length lengths.now }
     requires covered { length room.old ≤ sum (map unsigned_abs lengths.now) }
+    requires fits { length room.old ≤ most_places }
     ensures { room.new
         ≡ take (length room.old) (joined (progressions_of inits.now strides.now (map unsigned_abs lengths.now))) }
 {
-    fill_slice(
-        room,
-        |run: Run<i32>| -> Run<i32>
-            requires { (run.items ≡ []) × AreLengthsWithin most_places lengths.now × (length inits.now ≡ length lengths.now)
-                × (length strides.now ≡ length lengths.now) }
-            ensures { result ≡ with_items run (take run.room
-                (joined (progressions_of inits.entry.now strides.entry.now (map unsigned_abs lengths.entry.now)))) }
-        { numbers_of_starts(run, lengths, inits, strides) },
-    );
+    if are_short_and_uneven(lengths, room.len()) {
+        numbers_by::<EightAtOnce>(lengths, inits, strides, room);
+    } else {
+        numbers_by::<OneByOne>(lengths, inits, strides, room);
+    }
 }
 
-/// Writes the numbers of each segment with these lengths, up to the end of the run.
-fn numbers_of_starts(run: Run<i32>, lengths: &[i32], inits: &[i32], strides: &[i32]) -> Run<i32>
+/// The same, each segment in this way.
+#[inline(never)]
+fn numbers_by<W: Fronts>(lengths: &[i32], inits: &[i32], strides: &[i32], room: &mut [i32])
     requires lengths { AreLengthsWithin most_places lengths.now }
     requires inits { length inits.now ≡ length lengths.now }
     requires strides { length strides.now ≡ length lengths.now }
-    ensures { result
-        ≡ with_items run (take run.room (joined (progressions_of inits.now strides.now (map unsigned_abs lengths.now)))) }
+    requires covered { length room.old ≤ sum (map unsigned_abs lengths.now) }
+    requires fits { length room.old ≤ most_places }
+    ensures { room.new
+        ≡ take (length room.old) (joined (progressions_of inits.now strides.now (map unsigned_abs lengths.now))) }
 {
-    let mut run = run;
+    let mut first = 0;
     for s in 0..lengths.len() {
-        let count = (lengths[s] as usize).min(run.room());
-        run = push_numbers(run, &inits[s], &strides[s], count);
+        let end = (first + lengths[s] as usize).min(room.len());
+        W::write(room, first, end, &Steps::of(&inits[s], &strides[s]));
+        first = end;
     }
-    run
-}
-
-/// Pushes the first `count` numbers from `init` on in steps of `stride`. There must be room for them.
-fn push_numbers(mut run: Run<i32>, init: &i32, stride: &i32, count: usize) -> Run<i32>
-    requires { count ≤ run.room }
-    ensures { result ≡ stretch run.block run.first (run.items ++ progression init.now stride.now count) (run.room - count) }
-{
-    // read once, since the loop writes memory
-    let (mut next, step) = (*init, *stride);
-    for _ in 0..count {
-        run.push(next);
-        next = next.wrapping_add(step);
-    }
-    run
 }
