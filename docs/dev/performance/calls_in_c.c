@@ -15,6 +15,9 @@ enum { MOST = 4194304, SHORT = 1000, SHORT_ROUNDS = 20000, LONG_ROUNDS = 40, SEG
 
 /* `small` has elements whose sums fit, `shifts` numbers from 0 to 31, and `shuffled` each index once, at random for its length. */
 static int32_t a[MOST], b[MOST], small[MOST], shifts[MOST], in_order[MOST], shuffled[MOST], lengths[SEGMENTS], out[MOST];
+/* segments of one to seven elements, at random */
+static int32_t short_lengths[MOST];
+static size_t short_segments;
 static bool flags[MOST], others[MOST], taken[MOST];
 
 #define LOOP __attribute__((noinline)) static void
@@ -112,6 +115,33 @@ LOOP loop_segmented_reduce(size_t n) {
     }
 }
 
+LOOP loop_short_scan(size_t n) {
+    for (size_t s = 0, k = 0; k < n; s++) {
+        uint32_t sum = 0;
+        for (size_t end = k + (size_t)short_lengths[s]; k < end; k++) {
+            out[k] = (int32_t)sum;
+            sum += (uint32_t)a[k];
+        }
+    }
+}
+
+LOOP loop_short_copies(size_t n) {
+    for (size_t s = 0, k = 0; k < n; s++) {
+        const int32_t value = a[s];
+        for (size_t end = k + (size_t)short_lengths[s]; k < end; k++) out[k] = value;
+    }
+}
+
+LOOP loop_short_numbers(size_t n) {
+    for (size_t s = 0, k = 0; k < n; s++) {
+        uint32_t number = (uint32_t)a[s];
+        for (size_t end = k + (size_t)short_lengths[s]; k < end; k++) {
+            out[k] = (int32_t)number;
+            number += (uint32_t)b[s];
+        }
+    }
+}
+
 LOOP loop_sparse_product(size_t n) {
     for (size_t s = 0, k = 0; k < n; s++) {
         uint32_t sum = 0;
@@ -196,6 +226,18 @@ static size_t segments_of(size_t n) {
     return segments;
 }
 
+/* Cuts n elements into segments of one to seven, at random. */
+static void cut_short(size_t n) {
+    uint32_t state = 1;
+    short_segments = 0;
+    for (size_t k = 0; k < n; short_segments++) {
+        state = state * 1664525u + 1013904223u;
+        const size_t wanted = 1 + (size_t)((uint64_t)state * 7 >> 32), left = n - k;
+        short_lengths[short_segments] = (int32_t)(wanted < left ? wanted : left);
+        k += (size_t)short_lengths[short_segments];
+    }
+}
+
 /* Puts each index from 0 to n once into `shuffled`, at random. */
 static void shuffle(size_t n) {
     uint32_t state = 1;
@@ -226,6 +268,11 @@ static void call_checked_scan(size_t n) { must(tot_suz(small, out, n)); }
 static void call_checked_reduce(size_t n) { must(tot_ruz(small, n, out)); }
 static void call_segmented_scan(size_t n) { must(add_sez(a, (CvlLengths){lengths, segments_of(n)}, out, n)); }
 static void call_segmented_reduce(size_t n) { must(add_rez(a, n, (CvlLengths){lengths, segments_of(n)}, out)); }
+
+#define SHORT_SEGMENTS ((CvlLengths){short_lengths, short_segments})
+static void call_short_scan(size_t n) { must(add_sez(a, SHORT_SEGMENTS, out, n)); }
+static void call_short_copies(size_t n) { must(dis_vez(a, SHORT_SEGMENTS, out, n)); }
+static void call_short_numbers(size_t n) { must(ind_lez(a, b, SHORT_SEGMENTS, out, n)); }
 
 static void call_sparse_product(size_t n) {
     const CvlLengths rows = {lengths, segments_of(n)};
@@ -274,9 +321,11 @@ static int short_rounds = SHORT_ROUNDS, long_rounds = LONG_ROUNDS;
 static void measure(const char *name, void (*call)(size_t), void (*loop)(size_t)) {
     shuffle(SHORT);
     segments_of(SHORT);
+    cut_short(SHORT);
     double short_call = best(call, SHORT, short_rounds), short_loop = best(loop, SHORT, short_rounds);
     shuffle(most);
     segments_of(most);
+    cut_short(most);
     double long_call = best(call, most, long_rounds), long_loop = best(loop, most, long_rounds);
     printf("%-24s %8.2f %8.2f %10.0f %10.0f %6.2f\n", name, short_call, short_loop, long_call, long_loop, long_call / long_loop);
 }
@@ -320,6 +369,9 @@ int main(int words, char **word) {
     measure("rep_vub", call_replace, loop_replace);
     measure("dis_vuz", call_distribute, loop_distribute);
     measure("ind_luz", call_index, loop_index);
+    measure("add_sez, of 1 to 7", call_short_scan, loop_short_scan);
+    measure("dis_vez, of 1 to 7", call_short_copies, loop_short_copies);
+    measure("ind_lez, of 1 to 7", call_short_numbers, loop_short_numbers);
     measure("cvl_sparse_product", call_sparse_product, loop_sparse_product);
     return EXIT_SUCCESS;
 }
