@@ -66,7 +66,7 @@ EDITS = {
     ],
     "promises.check_trusted": [(PROVED, "`rayon`, `strsim`, `thiserror`", "`rayon`, `thiserror`")],
     "promises.check_unproved": [(PROVED, "`join_records`, `give`", "`give`")],
-    "promises.check_from_c": [("docs/user/rust.md", "and runs the steps, is tested.", "and runs the steps, is proved.")],
+    "promises.check_from_c": [("docs/user/rust.md", "is tested, and in part proved by another tool.", "is proved.")],
     "paths.check_paths": [("README.md", "", "\nSee `docs/no-such-page.md`.\n")],
     "paths.check_links": [("README.md", "", "\nSee [a page](docs/no-such-page.md).\n")],
     "paths.check_tests": [("tests/README.md", "`nests.c`", "another")],

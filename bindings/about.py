@@ -12,7 +12,7 @@ FROM_C = (
 )
 FROM_C_IN_SHORT = (
     "The functions below a call are [proved](proved.md), and so is that the steps of a call on several threads give its result. The C over them, which "
-    "checks arguments and runs the steps, is tested."
+    "checks arguments and runs the steps, is tested, and in part proved by another tool."
 )
 
 ABOUT = (
