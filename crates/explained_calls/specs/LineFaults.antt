@@ -39,25 +39,20 @@ wanted_words wanted.Argument = codes "a name, a number, T or F"
 abbrev pub end_words : Bool → List ℕ
 end_words ends = if ends then codes ", but the line ends" else []
 
--- the words to add for the reason why a token may not stand where it stands, up to its length
-abbrev pub reason_text : Reason → List ℕ
-reason_text reason.Other = []
-reason_text reason.Reserved = codes "; write, T and F cannot be names"
-reason_text (reason.TooLong bytes) = codes "; a name has at most 32 bytes, and this one has "
-reason_text reason.NoName = codes "; a name is a letter, and then letters, digits and underscores"
-reason_text reason.Parenthesis = codes "; a line makes one call, without parentheses or commas"
-reason_text reason.ByteOrderMark = codes "; the line begins with a byte order mark, which has to go"
-
--- the length of a token that is too long
-abbrev pub reason_length : Reason → List ℕ
-reason_length (reason.TooLong bytes) = decimal bytes
-reason_length _ = []
+-- the words to add for the reason why a token may not stand where it stands
+abbrev pub reason_words : Reason → List ℕ
+reason_words reason.Other = []
+reason_words reason.Reserved = codes "; write, T and F cannot be names"
+reason_words (reason.TooLong bytes) = codes "; a name has at most 32 bytes, and this one has " ++ decimal bytes
+reason_words reason.NoName = codes "; a name is a letter, and then letters, digits and underscores"
+reason_words reason.Parenthesis = codes "; a line makes one call, without parentheses or commas"
+reason_words reason.ByteOrderMark = codes "; the line begins with a byte order mark, which has to go"
 
 -- columns are bytes, counted from 1
 abbrev pub hint_words : Hint → List ℕ
 hint_words hint =
     codes "column " ++ decimal (hint.place + 1) ++ codes ": expected " ++ wanted_words hint.wanted ++ end_words hint.ends
-    ++ reason_text hint.reason ++ reason_length hint.reason
+    ++ reason_words hint.reason
 
 -- a line of the explanation for a hint; nothing without one
 abbrev pub hint_line : Option Hint → List ℕ
@@ -145,12 +140,15 @@ abbrev pub counts_words : List ℕ → ℕ → List ℕ → ℕ → List ℕ
 counts_words verb wanted thing present = verb ++ counted wanted thing ++ codes ", and the line has " ++ decimal present
 
 -- how many arguments the call wants, or how many names, and how many the line has
-abbrev pub count_words : Op → ℕ → ℕ → List ℕ
-count_words op names arguments =
-    spelling_of op
-    ++ (if takes_of op arguments then counts_words (codes " binds ") (binds_of op) (codes "name") names
+abbrev pub amounts_words : Op → ℕ → ℕ → List ℕ
+amounts_words op names arguments =
+    if takes_of op arguments then counts_words (codes " binds ") (binds_of op) (codes "name") names
     else (if is_write op then (codes " takes 1 or 2 names, and the line has " ++ decimal arguments)
-    else counts_words (codes " takes ") (length (operands_of op)) (codes "argument") arguments))
+    else counts_words (codes " takes ") (length (operands_of op)) (codes "argument") arguments)
+
+-- `add_ruz takes 1 argument, and the line has 2`
+abbrev pub count_words : Op → ℕ → ℕ → List ℕ
+count_words op names arguments = spelling_of op ++ amounts_words op names arguments
 
 -- what the call takes, and what the line has
 abbrev pub count_lines : Op → ℕ → ℕ → List ℕ

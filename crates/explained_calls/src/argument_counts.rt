@@ -1,62 +1,69 @@
 //! A call with too many or too few arguments or names, in words.
 
-ghost use Rattle.std.specs.Prelude.{◌≡◌, ◌++◌, codes, OnOk};
-ghost use Rattle.explained_calls.specs.LineFaults.{count_lines, count_words, counts_words};
-ghost use Rattle.explained_calls.specs.Sentences.{indented};
+ghost use Rattle.std.specs.Prelude.{◌≡◌, ◌++◌, OnOk};
+ghost use Rattle.explained_calls.specs.LineFaults.{amounts_words, count_lines, counts_words};
 
-use crate::call_words::{put_call_words, put_spelling};
-use crate::pieces::{ending, put_pieces};
+use crate::call_words::{CallWords, Spelling};
+use crate::said;
+use crate::words::{Counted, Line, Number, Words};
 use cvl_base::{Memory, NoResources, Op};
-use itoa::Buffer;
 
-/// Appends how many things are wanted, and how many the line has.
-fn put_counts<A: Memory>(
+/// How many things are wanted, and how many the line has.
+#[derive(Drop)]
+struct Counts {
     verb: &'static [u8],
     wanted: usize,
     thing: &'static [u8],
     present: usize,
-    text: &mut Vec<u8, A>,
-) -> Result<(), NoResources>
-    ensures { OnOk result (text.new.items ≡ text.old.items ++ (counts_words verb.now wanted thing.now present ++ codes "\n")) }
-{
-    let (mut wants, mut has) = (Buffer::new(), Buffer::new());
-    let wants = wants.format(wanted).as_bytes();
-    let has = has.format(present).as_bytes();
-    let middle = b", and the line has ";
-    put_pieces(
-        text,
-        &[verb, wants, b" ", thing, ending(wanted), middle, has, b"\n"],
-    )
 }
 
-/// Appends how many arguments or names a call wants, and how many the line has.
-fn put_count_words<A: Memory>(
+impl Words for Counts {
+    ghost words = { λ counts. counts_words counts.verb.now counts.wanted counts.thing.now counts.present };
+
+    fn put<A: Memory>(&self, text: &mut Vec<u8, A>) -> Result<(), NoResources> {
+        let things = Counted(self.wanted, self.thing);
+        said![
+            self.verb,
+            things,
+            b", and the line has ",
+            Number(self.present)
+        ]
+        .put(text)
+    }
+}
+
+/// How many arguments or names a call wants, and how many the line has.
+#[derive(Drop)]
+struct Amounts {
     op: Op,
     names: usize,
     arguments: usize,
-    text: &mut Vec<u8, A>,
-) -> Result<(), NoResources>
-    ensures { OnOk result (text.new.items ≡ text.old.items ++ indented (count_words op names arguments)) }
-{
-    put_pieces(text, &[b"  "])?;
-    put_spelling(op, text)?;
-    if op.takes(arguments) {
-        put_counts(b" binds ", op.binds(), b"name", names, text)
-    } else if op.is_write() {
-        let mut has = Buffer::new();
-        let has = has.format(arguments).as_bytes();
-        put_pieces(
-            text,
-            &[b" takes 1 or 2 names, and the line has ", has, b"\n"],
-        )
-    } else {
-        put_counts(
-            b" takes ",
-            op.operands().len(),
-            b"argument",
-            arguments,
-            text,
-        )
+}
+
+impl Words for Amounts {
+    ghost words = { λ amounts. amounts_words amounts.op amounts.names amounts.arguments };
+
+    fn put<A: Memory>(&self, text: &mut Vec<u8, A>) -> Result<(), NoResources> {
+        if self.op.takes(self.arguments) {
+            let names = Counts {
+                verb: b" binds ",
+                wanted: self.op.binds(),
+                thing: b"name",
+                present: self.names,
+            };
+            names.put(text)
+        } else if self.op.is_write() {
+            let takes = b" takes 1 or 2 names, and the line has ";
+            said![takes, Number(self.arguments)].put(text)
+        } else {
+            let arguments = Counts {
+                verb: b" takes ",
+                wanted: self.op.operands().len(),
+                thing: b"argument",
+                present: self.arguments,
+            };
+            arguments.put(text)
+        }
     }
 }
 
@@ -69,6 +76,11 @@ pub(crate) fn put_count_lines<A: Memory>(
 ) -> Result<(), NoResources>
     ensures { OnOk result (text.new.items ≡ text.old.items ++ count_lines op names arguments) }
 {
-    put_call_words(op, text)?;
-    put_count_words(op, names, arguments, text)
+    let amounts = Amounts {
+        op,
+        names,
+        arguments,
+    };
+    Line(CallWords(op)).put(text)?;
+    Line(said![Spelling(op), amounts]).put(text)
 }

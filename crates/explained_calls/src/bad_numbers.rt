@@ -1,12 +1,12 @@
 //! An argument that is no number, in words.
 
 ghost use Rattle.std.specs.Prelude.{◌≡◌, ◌++◌, find, option_copied, OnOk};
-ghost use Rattle.explained_calls.specs.LineFaults.{is_bad_number, no_number_words, number_line};
-ghost use Rattle.explained_calls.specs.Sentences.{indented};
+ghost use Rattle.explained_calls.specs.LineFaults.{is_bad_number, number_line};
 
-use crate::pieces::put_pieces;
 use crate::placed_tokens::Token;
-use crate::shown::put_shortened;
+use crate::said;
+use crate::shown::Shortened;
+use crate::words::{Line, Words};
 use cvl_base::name::is_name_text;
 use cvl_base::{Memory, NoResources};
 use line_reader::line_tokens::is_boolean_token;
@@ -26,15 +26,6 @@ fn bad_number<'t, 'l>(arguments: &'t [Token<'l>]) -> Option<&'t Token<'l>>
     arguments.iter().find(|token| is_bad_number(token.bytes()))
 }
 
-/// Appends the line on an argument that is no number.
-fn put_no_number<A: Memory>(token: &[u8], text: &mut Vec<u8, A>) -> Result<(), NoResources>
-    ensures { OnOk result (text.new.items ≡ text.old.items ++ indented (no_number_words token.now)) }
-{
-    put_pieces(text, &[b"  "])?;
-    put_shortened(text, token)?;
-    put_pieces(text, &[b" is no integer from -2147483648 to 2147483647\n"])
-}
-
 /// Appends the line on the first argument that is a bad number.
 pub(crate) fn put_bad_number<A: Memory>(
     arguments: &[Token<'_>],
@@ -45,6 +36,9 @@ pub(crate) fn put_bad_number<A: Memory>(
 {
     match bad_number(arguments) {
         None => Ok(()),
-        Some(token) => put_no_number(token.bytes(), text),
+        Some(token) => {
+            let end = b" is no integer from -2147483648 to 2147483647";
+            Line(said![Shortened(token.bytes()), end]).put(text)
+        }
     }
 }

@@ -3,8 +3,8 @@
 //! Characters of UTF-8 stand as they are. A byte below 32, the byte 127, and one that belongs to no character stand as `\xNN`, so
 //! that no terminal takes them for a command.
 
-ghost use Rattle.std.specs.Prelude.{◌≡◌, ◌++◌, ◌<◌, [], ◌∷◌, drop, false, length, map, take};
-ghost use Rattle.std.specs.Prelude.{IfSome, MatchOption, OnOk};
+ghost use Rattle.std.specs.Prelude.{◌≡◌, ◌<◌, [], ◌∷◌, drop, false, length, map, take};
+ghost use Rattle.std.specs.Prelude.{IfSome, MatchOption};
 ghost use Rattle.std.specs.Fmt.{digit_glyph};
 ghost use Rattle.std.specs.List.{concat};
 ghost use Rattle.std.specs.Str.{is_utf8};
@@ -12,7 +12,8 @@ ghost use Rattle.explained_calls.specs.Sentences.{shortened};
 ghost use Rattle.explained_calls.specs.Shown.{character_length, characters, fitting, is_printed};
 ghost use Rattle.explained_calls.specs.Shown.{shown, shown_byte, shown_character, shown_front};
 
-use crate::pieces::put_pieces;
+use crate::said;
+use crate::words::Words;
 use cvl_base::{Memory, NoResources};
 
 /// The first bytes, so many if there are as many.
@@ -101,82 +102,102 @@ fn hex_digit(digit: u8) -> u8
     }
 }
 
-/// Appends a byte alone: a control byte, and one that belongs to no character, by its number, `\x1b`.
-fn put_byte<A: Memory>(text: &mut Vec<u8, A>, byte: u8) -> Result<(), NoResources>
-    ensures { OnOk result (text.new.items ≡ text.old.items ++ shown_byte byte) }
-{
-    if is_printed(byte) {
-        put_pieces(text, &[&[byte]])
-    } else {
-        let digits = [hex_digit(byte / 16), hex_digit(byte % 16)];
-        put_pieces(text, &[b"\\x", &digits])
-    }
-}
+/// A byte alone: a control byte, and one that belongs to no character, by its number, `\x1b`.
+#[derive(Clone, Copy)]
+struct Byte(u8);
 
-/// Appends a character as it stands, unless it is a single byte that is not printed.
-fn put_character<A: Memory>(text: &mut Vec<u8, A>, character: &[u8]) -> Result<(), NoResources>
-    ensures { OnOk result (text.new.items ≡ text.old.items ++ shown_character character.now) }
-{
-    match character {
-        [byte] => put_byte(text, *byte),
-        _ => put_pieces(text, &[character]),
-    }
-}
+impl Words for Byte {
+    ghost words = { λ byte. shown_byte byte.0 };
 
-/// Appends bytes as an explanation shows them, characters as they are and other bytes as `\xNN`.
-#[tactic(auto, using(crate::proofs::ShownWalk::one_more, crate::proofs::ShownWalk::all_shown))]
-pub fn put_shown<A: Memory>(text: &mut Vec<u8, A>, bytes: &[u8]) -> Result<(), NoResources>
-    ensures { OnOk result (text.new.items ≡ text.old.items ++ shown bytes.now) }
-{
-    let mut rest = bytes;
-    while let Some((character, others)) = next_character(rest) {
-        put_character(text, character)?;
-        rest = others;
-    }
-    Ok(())
-}
-
-/// Appends the first whole characters of bytes that have at most so many bytes.
-fn put_fitting<A: Memory>(
-    text: &mut Vec<u8, A>,
-    most: usize,
-    bytes: &[u8],
-) -> Result<(), NoResources>
-    ensures { OnOk result (text.new.items
-        ≡ text.old.items ++ concat (map shown_character (fitting most (characters bytes.now)))) }
-{
-    let mut rest = bytes;
-    let mut left = most;
-    while let Some((character, others)) = next_character(rest) {
-        if left < character.len() {
-            return Ok(());
+    fn put<A: Memory>(&self, text: &mut Vec<u8, A>) -> Result<(), NoResources> {
+        let byte = self.0;
+        if is_printed(byte) {
+            (&[byte]).put(text)
+        } else {
+            let digits = [hex_digit(byte / 16), hex_digit(byte % 16)];
+            said![b"\\x", &digits].put(text)
         }
-        put_character(text, character)?;
-        left -= character.len();
-        rest = others;
     }
-    Ok(())
 }
 
-/// Appends bytes as an explanation shows them; if there are more than so many, the first whole characters that have no more, and
-/// `..`.
-pub fn put_front<A: Memory>(
-    text: &mut Vec<u8, A>,
-    most: usize,
-    bytes: &[u8],
-) -> Result<(), NoResources>
-    ensures { OnOk result (text.new.items ≡ text.old.items ++ shown_front most bytes.now) }
-{
-    if bytes.len() <= most {
-        return put_shown(text, bytes);
+/// A character as it stands, unless it is a single byte that is not printed.
+#[derive(Clone, Copy)]
+struct Character<'a>(&'a [u8]);
+
+impl<'a> Words for Character<'a> {
+    ghost words = { λ character. shown_character character.0.now };
+
+    fn put<A: Memory>(&self, text: &mut Vec<u8, A>) -> Result<(), NoResources> {
+        match self.0 {
+            [byte] => Byte(*byte).put(text),
+            _ => self.0.put(text),
+        }
     }
-    put_fitting(text, most, bytes)?;
-    put_pieces(text, &[b".."])
 }
 
-/// Appends a token as an explanation shows it; a long one as its first 40 bytes, or fewer if a character would be cut, and `..`.
-pub fn put_shortened<A: Memory>(text: &mut Vec<u8, A>, token: &[u8]) -> Result<(), NoResources>
-    ensures { OnOk result (text.new.items ≡ text.old.items ++ shortened token.now) }
-{
-    put_front(text, 40, token)
+/// Bytes as an explanation shows them, characters as they are and other bytes as `\xNN`.
+#[derive(Clone, Copy)]
+pub struct Shown<'a>(pub &'a [u8]);
+
+impl<'a> Words for Shown<'a> {
+    ghost words = { λ bytes. shown bytes.0.now };
+
+    #[tactic(auto, using(crate::proofs::ShownWalk::one_more, crate::proofs::ShownWalk::all_shown))]
+    fn put<A: Memory>(&self, text: &mut Vec<u8, A>) -> Result<(), NoResources> {
+        let mut rest = self.0;
+        while let Some((character, others)) = next_character(rest) {
+            Character(character).put(text)?;
+            rest = others;
+        }
+        Ok(())
+    }
+}
+
+/// The first whole characters of bytes that have at most so many bytes.
+#[derive(Clone, Copy)]
+struct Fitting<'a>(usize, &'a [u8]);
+
+impl<'a> Words for Fitting<'a> {
+    ghost words = { λ front. concat (map shown_character (fitting front.0 (characters front.1.now))) };
+
+    #[tactic(auto, using(crate::proofs::ShownWalk::one_more, crate::proofs::ShownWalk::all_shown))]
+    fn put<A: Memory>(&self, text: &mut Vec<u8, A>) -> Result<(), NoResources> {
+        let (mut left, mut rest) = (self.0, self.1);
+        while let Some((character, others)) = next_character(rest) {
+            if left < character.len() {
+                return Ok(());
+            }
+            Character(character).put(text)?;
+            left -= character.len();
+            rest = others;
+        }
+        Ok(())
+    }
+}
+
+/// Bytes as an explanation shows them; if there are more than so many, the first whole characters that have no more, and `..`.
+#[derive(Clone, Copy)]
+pub struct Front<'a>(pub usize, pub &'a [u8]);
+
+impl<'a> Words for Front<'a> {
+    ghost words = { λ front. shown_front front.0 front.1.now };
+
+    fn put<A: Memory>(&self, text: &mut Vec<u8, A>) -> Result<(), NoResources> {
+        if self.1.len() <= self.0 {
+            return Shown(self.1).put(text);
+        }
+        said![Fitting(self.0, self.1), b".."].put(text)
+    }
+}
+
+/// A token as an explanation shows it; a long one as its first 40 bytes, or fewer if a character would be cut, and `..`.
+#[derive(Clone, Copy)]
+pub struct Shortened<'a>(pub &'a [u8]);
+
+impl<'a> Words for Shortened<'a> {
+    ghost words = { λ token. shortened token.0.now };
+
+    fn put<A: Memory>(&self, text: &mut Vec<u8, A>) -> Result<(), NoResources> {
+        Front(40, self.0).put(text)
+    }
 }

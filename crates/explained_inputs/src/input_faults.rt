@@ -2,42 +2,42 @@
 
 ghost use Rattle.std.specs.Prelude.{◌≡◌, ◌++◌, OnOk, option_copied};
 ghost use Rattle.explained_calls.specs.Sentences.{indented};
-ghost use Rattle.explained_calls.specs.Shown.{shown};
-ghost use Rattle.explained_inputs.specs.InputFaults.{bytes_words, end_words, expected_words};
-ghost use Rattle.explained_inputs.specs.InputFaults.{flat_words, input_fault_words, nested_words, no_integer_words};
-ghost use Rattle.explained_inputs.specs.InputFaults.{position_words};
-ghost use Rattle.explained_inputs.specs.InputFaults.{many_words, quoted, stray_words, too_long_words, vector_words};
+ghost use Rattle.explained_inputs.specs.InputFaults.{bytes_words, end_words, expected_words, input_fault_words, many_words};
+ghost use Rattle.explained_inputs.specs.InputFaults.{nested_words, no_integer_words, position_words, quoted, stray_words};
 
 use crate::token_places::{column_at, count_of, line_at};
 use call_reader::{InputBytes, NestedBytes};
 use cvl_base::{Memory, NoResources};
-use explained_calls::{Token, put_pieces, put_shortened, put_shown, token_at};
-use itoa::Buffer;
+use explained_calls::{Line, Number, Shortened, Shown, Token, Words, said, token_at};
 
-/// Writes the file's name with the line and the column of a place: `numbers:3:7: `.
-fn put_position<B: Memory>(
-    file: &[u8],
-    bytes: &[u8],
+/// The file's name with the line and the column of a place: `numbers:3:7: `.
+#[derive(Drop)]
+struct Position<'a> {
+    file: &'a [u8],
+    bytes: &'a [u8],
     place: usize,
-    text: &mut Vec<u8, B>,
-) -> Result<(), NoResources>
-    ensures { OnOk result (text.new.items ≡ text.old.items ++ position_words file.now bytes.now place) }
-{
-    let mut line = Buffer::new();
-    let mut column = Buffer::new();
-    let line = line.format(line_at(bytes, place)).as_bytes();
-    let column = column.format(column_at(bytes, place)).as_bytes();
-    put_shown(text, file)?;
-    put_pieces(text, &[b":", line, b":", column, b": "])
 }
 
-/// Writes a token in quotation marks; a long one as its first 40 bytes.
-fn put_quoted<B: Memory>(token: &[u8], text: &mut Vec<u8, B>) -> Result<(), NoResources>
-    ensures { OnOk result (text.new.items ≡ text.old.items ++ quoted token.now) }
-{
-    put_pieces(text, &[b"\""])?;
-    put_shortened(text, token)?;
-    put_pieces(text, &[b"\""])
+impl<'a> Words for Position<'a> {
+    ghost words = { λ position. position_words position.file.now position.bytes.now position.place };
+
+    fn put<A: Memory>(&self, text: &mut Vec<u8, A>) -> Result<(), NoResources> {
+        let line = Number(line_at(self.bytes, self.place));
+        let column = Number(column_at(self.bytes, self.place));
+        said![Shown(self.file), b":", line, b":", column, b": "].put(text)
+    }
+}
+
+/// A token in quotation marks; a long one as its first 40 bytes.
+#[derive(Drop)]
+struct Quoted<'a>(&'a [u8]);
+
+impl<'a> Words for Quoted<'a> {
+    ghost words = { λ token. quoted token.0.now };
+
+    fn put<A: Memory>(&self, text: &mut Vec<u8, A>) -> Result<(), NoResources> {
+        said![b"\"", Shortened(self.0), b"\""].put(text)
+    }
 }
 
 /// What reads a token that begins as a list of lists does.
@@ -56,28 +56,17 @@ fn nested_words(token: &[u8]) -> &'static [u8]
     }
 }
 
-/// Writes that a token is no integer.
-fn put_no_integer<B: Memory>(token: &[u8], text: &mut Vec<u8, B>) -> Result<(), NoResources>
-    ensures { OnOk result (text.new.items ≡ text.old.items ++ no_integer_words token.now) }
-{
-    put_quoted(token, text)?;
-    let middle = b" is no integer from -2147483648 to 2147483647";
-    put_pieces(text, &[middle, nested_words(token)])
-}
+/// That a token is no integer.
+#[derive(Drop)]
+struct NoInteger<'a>(&'a [u8]);
 
-/// Writes the line about a token of an input of only numbers.
-fn put_flat<B: Memory>(
-    file: &[u8],
-    bytes: &[u8],
-    token: &Token<'_>,
-    text: &mut Vec<u8, B>,
-) -> Result<(), NoResources>
-    ensures { OnOk result (text.new.items ≡ text.old.items ++ indented (flat_words file.now bytes.now token.now)) }
-{
-    put_pieces(text, &[b"  "])?;
-    put_position(file, bytes, token.start(), text)?;
-    put_no_integer(token.bytes(), text)?;
-    put_pieces(text, &[b"\n"])
+impl<'a> Words for NoInteger<'a> {
+    ghost words = { λ token. no_integer_words token.0.now };
+
+    fn put<A: Memory>(&self, text: &mut Vec<u8, A>) -> Result<(), NoResources> {
+        let middle = b" is no integer from -2147483648 to 2147483647";
+        said![Quoted(self.0), middle, nested_words(self.0)].put(text)
+    }
 }
 
 /// What may stand at a place of a nested text after so many tokens.
@@ -105,13 +94,11 @@ fn put_end<B: Memory>(
 ) -> Result<(), NoResources>
     ensures { OnOk result (text.new.items ≡ text.old.items ++ indented (end_words file.now bytes.now number)) }
 {
-    let expected = expected_words(bytes, number, bytes.len());
-    put_pieces(text, &[b"  "])?;
-    put_position(file, bytes, bytes.len(), text)?;
-    put_pieces(
-        text,
-        &[b"the text ends where ", expected, b" is expected\n"],
-    )
+    let place = bytes.len();
+    let expected = expected_words(bytes, number, place);
+    let position = Position { file, bytes, place };
+    let ends = b"the text ends where ";
+    Line(said![position, ends, expected, b" is expected"]).put(text)
 }
 
 /// Writes the line about a token of a nested text, after so many tokens.
@@ -124,11 +111,11 @@ fn put_stray<B: Memory>(
 ) -> Result<(), NoResources>
     ensures { OnOk result (text.new.items ≡ text.old.items ++ indented (stray_words file.now bytes.now number token.now)) }
 {
-    let expected = expected_words(bytes, number, token.start());
-    put_pieces(text, &[b"  "])?;
-    put_position(file, bytes, token.start(), text)?;
-    put_quoted(token.bytes(), text)?;
-    put_pieces(text, &[b" stands where ", expected, b" is expected\n"])
+    let place = token.start();
+    let expected = expected_words(bytes, number, place);
+    let position = Position { file, bytes, place };
+    let (stray, stands) = (Quoted(token.bytes()), b" stands where ");
+    Line(said![position, stray, stands, expected, b" is expected"]).put(text)
 }
 
 /// Writes the line about a token, by its number, of a nested text or of an input of numbers.
@@ -142,43 +129,18 @@ fn put_bytes_fault<B: Memory>(
     ensures { OnOk result (text.new.items ≡ text.old.items ++ bytes_words is_nested file.now bytes.now number) }
 {
     if is_nested {
-        match token_at::<NestedBytes>(bytes, number) {
+        return match token_at::<NestedBytes>(bytes, number) {
             None => put_end(file, bytes, number, text),
             Some(token) => put_stray(file, bytes, number, &token, text),
-        }
-    } else {
-        match token_at::<InputBytes>(bytes, number) {
-            None => Ok(()),
-            Some(token) => put_flat(file, bytes, &token, text),
-        }
+        };
     }
-}
-
-/// Writes a line that begins with the name of a file.
-pub fn put_file_words<B: Memory>(
-    file: &[u8],
-    words: &[u8],
-    text: &mut Vec<u8, B>,
-) -> Result<(), NoResources>
-    ensures { OnOk result (text.new.items ≡ text.old.items ++ indented (shown file.now ++ words.now)) }
-{
-    put_pieces(text, &[b"  "])?;
-    put_shown(text, file)?;
-    put_pieces(text, &[words, b"\n"])
-}
-
-/// Writes the line about an input that is a vector.
-fn put_vector<B: Memory>(
-    is_nested: bool,
-    file: &[u8],
-    text: &mut Vec<u8, B>,
-) -> Result<(), NoResources>
-    ensures { OnOk result (text.new.items ≡ text.old.items ++ vector_words is_nested file.now) }
-{
-    if is_nested {
-        put_file_words(file, b" is a vector, and nested reads a text", text)
-    } else {
-        Ok(())
+    match token_at::<InputBytes>(bytes, number) {
+        None => Ok(()),
+        Some(token) => {
+            let place = token.start();
+            let position = Position { file, bytes, place };
+            Line(said![position, NoInteger(token.bytes())]).put(text)
+        }
     }
 }
 
@@ -191,17 +153,6 @@ fn many_words(is_nested: bool) -> &'static [u8]
     } else {
         b" has more than 4194304 numbers"
     }
-}
-
-/// Writes the line about an input that is too long.
-fn put_too_long<B: Memory>(
-    is_nested: bool,
-    file: &[u8],
-    text: &mut Vec<u8, B>,
-) -> Result<(), NoResources>
-    ensures { OnOk result (text.new.items ≡ text.old.items ++ too_long_words is_nested file.now) }
-{
-    put_file_words(file, many_words(is_nested), text)
 }
 
 /// Writes the line about an input at fault: the bytes of a file of this name, or none if it is a vector. The line has two spaces
@@ -221,9 +172,13 @@ pub fn put_input_fault<B: Memory>(
         ≡ text.old.items ++ input_fault_words is_nested file.now (option_copied bytes.entry) place) }
 {
     match bytes {
-        None => put_vector(is_nested, file, text),
+        None if is_nested => {
+            let words = b" is a vector, and nested reads a text";
+            Line(said![Shown(file), words]).put(text)
+        }
+        None => Ok(()),
         Some(bytes) => match place {
-            None => put_too_long(is_nested, file, text),
+            None => Line(said![Shown(file), many_words(is_nested)]).put(text),
             Some(token) => put_bytes_fault(is_nested, file, bytes, token as usize, text),
         },
     }

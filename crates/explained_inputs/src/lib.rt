@@ -4,4 +4,4 @@
 pub mod input_faults;
 mod token_places;
 
-pub use input_faults::{put_file_words, put_input_fault};
+pub use input_faults::put_input_fault;

@@ -1,17 +1,15 @@
 //! The arguments of a line, as an explanation sees them.
 
-ghost use Rattle.std.specs.Prelude.{◌≡◌, ◌≤◌, ◌++◌, None, Some, OnOk, length, map, unsigned_abs};
+ghost use Rattle.std.specs.Prelude.{◌≡◌, ◌≤◌, Some, length, map, unsigned_abs};
 ghost use Rattle.cvl_base.specs.declared.value.Value.TheVariants as value;
 ghost use Rattle.cvl_base.specs.Limits.{most_elements};
 ghost use Rattle.bound_names.specs.Arguments.{booleans_in, integers_in, lengths_in};
-ghost use Rattle.explained_values.specs.Arguments.{argument_words, boolean_words, descriptor_words, elements_in};
-ghost use Rattle.explained_values.specs.Arguments.{integer_words, integer_at, kind_in, spelled_at, value_words};
+ghost use Rattle.explained_values.specs.Arguments.{argument_words, boolean_words, elements_in};
+ghost use Rattle.explained_values.specs.Arguments.{integer_at, kind_in, spelled_at, value_held, value_words};
 
 use crate::segments::total_of;
-use crate::sentences::put_counted;
 use cvl_base::{Kind, Memory, NoResources, Value};
-use explained_calls::put_pieces;
-use itoa::Buffer;
+use explained_calls::{Counted, Number, Words, said};
 use std::marker::Model;
 
 /// What an argument holds.
@@ -144,70 +142,64 @@ pub(crate) fn spelled_at<'a, A: Memory>(
     }
 }
 
-/// Writes an argument with its kind and length: its word, and `: integers, 8 elements`.
-pub fn put_argument<A: Memory, B: Memory>(
-    argument: &Argument<'_, A>,
-    text: &mut Vec<u8, B>,
-) -> Result<(), NoResources>
-    ensures { OnOk result (text.new.items ≡ text.old.items ++ argument_words argument.now) }
-{
-    put_pieces(text, &[argument.word, b": "])?;
-    match argument.holding {
-        Holding::Nothing => put_pieces(text, &[b"not bound"]),
-        Holding::Value(value) => put_value(value, text),
-        Holding::Integer(n) => put_integer(n, text),
-        Holding::Boolean(b) => put_boolean(b, text),
+/// A single boolean.
+#[derive(Clone, Copy)]
+struct Boolean(bool);
+
+impl Words for Boolean {
+    ghost words = { λ boolean. boolean_words boolean.0 };
+
+    fn put<A: Memory>(&self, text: &mut Vec<u8, A>) -> Result<(), NoResources> {
+        if self.0 {
+            b"the boolean T".put(text)
+        } else {
+            b"the boolean F".put(text)
+        }
     }
 }
 
-/// Writes what a value is, and its length.
-fn put_value<A: Memory, B: Memory>(
-    value: &Value<A>,
-    text: &mut Vec<u8, B>,
-) -> Result<(), NoResources>
-    ensures { OnOk result (text.new.items ≡ text.old.items ++ value_words (Some value.now)) }
-{
-    match value {
-        Value::Integers(xs) => {
-            put_pieces(text, &[b"integers, "])?;
-            put_counted(xs.len(), b"element", text)
+/// What a value is, and its length.
+#[derive(Drop)]
+struct Described<'a, A: Memory>(&'a Value<A>);
+
+impl<'a, A: Memory> Words for Described<'a, A> {
+    ghost words = { λ described. value_words (Some described.0.now) };
+
+    fn put<B: Memory>(&self, text: &mut Vec<u8, B>) -> Result<(), NoResources> {
+        match self.0 {
+            Value::Integers(xs) => said![b"integers, ", Counted(xs.len(), b"element")].put(text),
+            Value::Booleans(bs) => said![b"booleans, ", Counted(bs.len(), b"element")].put(text),
+            Value::Descriptor(lengths) => {
+                let lengths = lengths.as_slice();
+                let segments = Counted(lengths.len(), b"segment");
+                let elements = Counted(total_of(lengths), b"element");
+                said![b"a descriptor, ", segments, b", ", elements].put(text)
+            }
+            Value::Integer(n) => said![b"the integer ", Number(*n)].put(text),
+            Value::Boolean(b) => Boolean(*b).put(text),
         }
-        Value::Booleans(bs) => {
-            put_pieces(text, &[b"booleans, "])?;
-            put_counted(bs.len(), b"element", text)
-        }
-        Value::Descriptor(lengths) => put_descriptor(lengths.as_slice(), text),
-        Value::Integer(n) => put_integer(*n, text),
-        Value::Boolean(b) => put_boolean(*b, text),
     }
 }
 
-/// Writes how many segments a descriptor has, and how many elements in all.
-fn put_descriptor<B: Memory>(lengths: &[i32], text: &mut Vec<u8, B>) -> Result<(), NoResources>
-    requires { length lengths.now ≤ most_elements }
-    ensures { OnOk result (text.new.items ≡ text.old.items ++ descriptor_words (map unsigned_abs lengths.now)) }
-{
-    put_pieces(text, &[b"a descriptor, "])?;
-    put_counted(lengths.len(), b"segment", text)?;
-    put_pieces(text, &[b", "])?;
-    put_counted(total_of(lengths), b"element", text)
+/// What an argument holds, and its length.
+impl<'a, A: Memory> Words for Holding<'a, A> {
+    ghost words = { λ held. value_words (value_held held) };
+
+    fn put<B: Memory>(&self, text: &mut Vec<u8, B>) -> Result<(), NoResources> {
+        match self {
+            Holding::Nothing => b"not bound".put(text),
+            Holding::Value(value) => Described(*value).put(text),
+            Holding::Integer(n) => said![b"the integer ", Number(*n)].put(text),
+            Holding::Boolean(b) => Boolean(*b).put(text),
+        }
+    }
 }
 
-/// Writes a single integer.
-fn put_integer<B: Memory>(n: i32, text: &mut Vec<u8, B>) -> Result<(), NoResources>
-    ensures { OnOk result (text.new.items ≡ text.old.items ++ integer_words n) }
-{
-    let mut digits = Buffer::new();
-    put_pieces(text, &[b"the integer ", digits.format(n).as_bytes()])
-}
+/// An argument with its kind and length: its word, and `: integers, 8 elements`.
+impl<'a, A: Memory> Words for Argument<'a, A> {
+    ghost words = { argument_words };
 
-/// Writes a single boolean.
-fn put_boolean<B: Memory>(b: bool, text: &mut Vec<u8, B>) -> Result<(), NoResources>
-    ensures { OnOk result (text.new.items ≡ text.old.items ++ boolean_words b) }
-{
-    if b {
-        put_pieces(text, &[b"the boolean T"])
-    } else {
-        put_pieces(text, &[b"the boolean F"])
+    fn put<B: Memory>(&self, text: &mut Vec<u8, B>) -> Result<(), NoResources> {
+        said![self.word, b": ", self.holding].put(text)
     }
 }

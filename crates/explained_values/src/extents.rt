@@ -1,15 +1,14 @@
 //! The lengths of a call's arguments that must agree.
 
-ghost use Rattle.std.specs.Prelude.{◌≡◌, ◌++◌, OnOk, find, option_map};
+ghost use Rattle.std.specs.Prelude.{◌≡◌, ◌++◌, OnOk, find};
 ghost use Rattle.explained_values.specs.Arguments.{line_of};
 ghost use Rattle.explained_values.specs.Extents.{amount_of, differ, extent_words};
-ghost use Rattle.explained_values.specs.Extents.{extents_of, mismatch_words, pair_words, permuted_extents};
+ghost use Rattle.explained_values.specs.Extents.{extents_of, mismatch_words, permuted_extents};
 
 use crate::arguments::{Argument, spelled_at};
 use crate::segments::total_of;
-use crate::sentences::put_counted;
 use cvl_base::{Cut, Form, Memory, NoResources, Op};
-use explained_calls::put_pieces;
+use explained_calls::{Counted, Words, said};
 
 /// A length of the argument at a place, counted from 0.
 #[derive(Clone, Copy)]
@@ -113,9 +112,8 @@ fn put_extent<A: Memory, B: Memory>(
         Segments(place) => (place, b"segment", b""),
         Total(place) => (place, b"element", b" in all"),
     };
-    put_pieces(text, &[spelled_at(arguments, place).word(), b" has "])?;
-    put_counted(amount_of(arguments, extent), thing, text)?;
-    put_pieces(text, &[end])
+    let amount = Counted(amount_of(arguments, extent), thing);
+    said![spelled_at(arguments, place).word(), b" has ", amount, end].put(text)
 }
 
 /// The first two lengths that do not agree.
@@ -126,25 +124,7 @@ fn differing<A: Memory>(op: Op, arguments: &[Argument<'_, A>]) -> Option<(Extent
         != amount_of(arguments, pair.1))
 }
 
-/// Writes the line about two lengths that do not agree, if there are such.
-fn put_pair<A: Memory, B: Memory>(
-    arguments: &[Argument<'_, A>],
-    pair: Option<(Extent, Extent)>,
-    text: &mut Vec<u8, B>,
-) -> Result<(), NoResources>
-    ensures { OnOk result (text.new.items ≡ text.old.items ++ line_of (option_map (pair_words arguments.now) pair)) }
-{
-    let Some(pair) = pair else {
-        return Ok(());
-    };
-    put_pieces(text, &[b"  "])?;
-    put_extent(arguments, pair.0, text)?;
-    put_pieces(text, &[b", and "])?;
-    put_extent(arguments, pair.1, text)?;
-    put_pieces(text, &[b": these must agree\n"])
-}
-
-/// Writes the line about the first two lengths that do not agree.
+/// Writes the line about the first two lengths that do not agree, if there are such.
 pub(crate) fn put_mismatch<A: Memory, B: Memory>(
     op: Op,
     arguments: &[Argument<'_, A>],
@@ -152,5 +132,12 @@ pub(crate) fn put_mismatch<A: Memory, B: Memory>(
 ) -> Result<(), NoResources>
     ensures { OnOk result (text.new.items ≡ text.old.items ++ line_of (mismatch_words op arguments.now)) }
 {
-    put_pair(arguments, differing(op, arguments), text)
+    let Some(pair) = differing(op, arguments) else {
+        return Ok(());
+    };
+    b"  ".put(text)?;
+    put_extent(arguments, pair.0, text)?;
+    b", and ".put(text)?;
+    put_extent(arguments, pair.1, text)?;
+    b": these must agree\n".put(text)
 }

@@ -1,18 +1,17 @@
 //! What an index points into, and the earlier index that is the same.
 
-ghost use Rattle.std.specs.Prelude.{◌≡◌, ◌++◌, [], OnOk, drop, take};
-ghost use Rattle.std.specs.Option.{option_map_or};
+ghost use Rattle.std.specs.Prelude.{◌≡◌, ◌++◌, OnOk, drop, take};
 ghost use Rattle.cvl_base.specs.Packs.{count_of};
 ghost use Rattle.bound_names.specs.Arguments.{lengths_in};
 ghost use Rattle.explained_values.specs.IndexWords.{amount_in, first_place, first_sender};
 ghost use Rattle.explained_values.specs.IndexWords.{has_flags, places_words, repeated_words, target_of};
-ghost use Rattle.explained_values.specs.IndexWords.{same_before, same_flagged_before, sender_words};
+ghost use Rattle.explained_values.specs.IndexWords.{same_before, same_flagged_before};
 
 use crate::arguments::{Argument, spelled_at};
-use crate::segments::{length_at, places_of, put_part, segment_at, start_at, start_of};
-use crate::sentences::{put_counted, put_element_name};
+use crate::segments::{Part, length_at, places_of, segment_at, start_at, start_of};
+use crate::sentences::Element;
 use cvl_base::{Form, Memory, NoResources, Op, true_count};
-use explained_calls::put_pieces;
+use explained_calls::{Counted, Words, said};
 
 /// What an index points into, by the places of the arguments.
 #[derive(Clone, Copy)]
@@ -86,20 +85,16 @@ pub(crate) fn put_places<A: Memory, B: Memory>(
 {
     let target = target_of(op);
     let segment = segment_at(places_of(op), arguments, place);
-    let vector = spelled_at(arguments, target.vector);
+    let argument = spelled_at(arguments, target.vector);
     let descriptor = spelled_at(arguments, target.descriptor);
     let thing: &[u8] = if target.true_ones {
         b"true flag"
     } else {
         b"element"
     };
-    put_part(segment, vector.word(), text)?;
-    put_pieces(text, &[b" has "])?;
-    put_counted(
-        amount_in(target, segment, &vector, &descriptor),
-        thing,
-        text,
-    )
+    let amount = amount_in(target, segment, &argument, &descriptor);
+    let vector = argument.word();
+    said![Part { segment, vector }, b" has ", Counted(amount, thing)].put(text)
 }
 
 /// How far after the start the first place before another has this index.
@@ -172,22 +167,6 @@ fn first_place<A: Memory>(op: Op, arguments: &[Argument<'_, A>], place: usize) -
 }
 
 /// Writes which earlier index is the same, if one is: `, which index[1] sent to before`.
-fn put_sender<B: Memory>(
-    index: &[u8],
-    first: Option<usize>,
-    text: &mut Vec<u8, B>,
-) -> Result<(), NoResources>
-    ensures { OnOk result (text.new.items ≡ text.old.items ++ option_map_or (sender_words index.now) first []) }
-{
-    let Some(first) = first else {
-        return Ok(());
-    };
-    put_pieces(text, &[b", which "])?;
-    put_element_name(index, first, text)?;
-    put_pieces(text, &[b" sent to before"])
-}
-
-/// Writes which earlier index is the same, if one is.
 pub(crate) fn put_repeated<A: Memory, B: Memory>(
     op: Op,
     arguments: &[Argument<'_, A>],
@@ -196,6 +175,9 @@ pub(crate) fn put_repeated<A: Memory, B: Memory>(
 ) -> Result<(), NoResources>
     ensures { OnOk result (text.new.items ≡ text.old.items ++ repeated_words op arguments.now place) }
 {
-    let first = first_place(op, arguments, place);
-    put_sender(spelled_at(arguments, 1).word(), first, text)
+    let Some(first) = first_place(op, arguments, place) else {
+        return Ok(());
+    };
+    let sender = Element(spelled_at(arguments, 1).word(), first);
+    said![b", which ", sender, b" sent to before"].put(text)
 }

@@ -11,8 +11,7 @@ ghost use Rattle.explained_values.specs.KindFaults.{noun, operand_at, repeat_wor
 use crate::arguments::Argument;
 use cvl_base::name::is_name_text;
 use cvl_base::{Kind, Memory, NoResources, Op};
-use explained_calls::{put_pieces, put_spelling};
-use itoa::Buffer;
+use explained_calls::{Line, Number, Spelling, Words, said};
 
 /// What a value of a kind is, without an article.
 fn noun(kind: Kind) -> &'static [u8]
@@ -68,35 +67,41 @@ fn repeating(kind: Option<Kind>, wanted: Option<Kind>) -> Option<&'static [u8]>
     }
 }
 
-/// Writes what an argument holds, or that it is a single value of the line itself.
-fn put_holds<B: Memory>(
-    word: &[u8],
+/// What an argument holds, or that it is a single value of the line itself.
+#[derive(Drop)]
+struct Holds<'a> {
+    word: &'a [u8],
     kind: Option<Kind>,
-    text: &mut Vec<u8, B>,
-) -> Result<(), NoResources>
-    ensures { OnOk result (text.new.items ≡ text.old.items ++ holds_words word.now kind) }
-{
-    if is_name_text(word) {
-        put_pieces(text, &[b", ", word])?;
-        put_pieces(text, &[b", holds a ", noun_of(kind)])
-    } else {
-        put_pieces(text, &[b" is the ", noun_of(kind)])?;
-        put_pieces(text, &[b" ", word])
+}
+
+impl<'a> Words for Holds<'a> {
+    ghost words = { λ holds. holds_words holds.word.now holds.kind };
+
+    fn put<A: Memory>(&self, text: &mut Vec<u8, A>) -> Result<(), NoResources> {
+        let held = noun_of(self.kind);
+        if is_name_text(self.word) {
+            said![b", ", self.word, b", holds a ", held].put(text)
+        } else {
+            said![b" is the ", held, b" ", self.word].put(text)
+        }
     }
 }
 
-/// Writes how to repeat a single value, if that helps.
-fn put_repeat<B: Memory>(
-    word: &[u8],
-    call: Option<&[u8]>,
-    text: &mut Vec<u8, B>,
-) -> Result<(), NoResources>
-    ensures { OnOk result (text.new.items
-        ≡ text.old.items ++ repeat_words word.now (option_map (λ call. call.now) call.entry)) }
-{
-    match call {
-        None => Ok(()),
-        Some(call) => put_pieces(text, &[b"; `", call, b" ", word, b" N` makes N copies"]),
+/// How to repeat a single value, if that helps.
+#[derive(Drop)]
+struct Repeat<'a> {
+    word: &'a [u8],
+    call: Option<&'static [u8]>,
+}
+
+impl<'a> Words for Repeat<'a> {
+    ghost words = { λ repeat. repeat_words repeat.word.now (option_map (λ call. call.now) repeat.call) };
+
+    fn put<A: Memory>(&self, text: &mut Vec<u8, A>) -> Result<(), NoResources> {
+        match self.call {
+            None => Ok(()),
+            Some(call) => said![b"; `", call, b" ", self.word, b" N` makes N copies"].put(text),
+        }
     }
 }
 
@@ -110,15 +115,21 @@ fn put_holding<B: Memory>(
 ) -> Result<(), NoResources>
     ensures { OnOk result (text.new.items ≡ text.old.items ++ indented (holding_words op place word.now kind)) }
 {
-    let mut digits = Buffer::new();
-    let number = digits.format(place as u128 + 1).as_bytes();
-    put_pieces(text, &[b"  argument ", number])?;
-    put_holds(word, kind, text)?;
-    put_pieces(text, &[b", and "])?;
-    put_spelling(op, text)?;
-    put_pieces(text, &[b" takes a ", wanted_noun(op, place)])?;
-    put_repeat(word, repeating(kind, operand_at(op, place)), text)?;
-    put_pieces(text, &[b"\n"])
+    let (number, holds) = (Number(place as u128 + 1), Holds { word, kind });
+    let wanted = wanted_noun(op, place);
+    let call = repeating(kind, operand_at(op, place));
+    let repeat = Repeat { word, call };
+    let words = said![
+        b"argument ",
+        number,
+        holds,
+        b", and ",
+        Spelling(op),
+        b" takes a ",
+        wanted,
+        repeat
+    ];
+    Line(words).put(text)
 }
 
 /// Whether the call takes no value of an argument's kind at its place among so many.

@@ -12,5 +12,5 @@ mod sentences;
 mod sum_words;
 pub mod value_faults;
 
-pub use arguments::{Argument, Holding, put_argument};
+pub use arguments::{Argument, Holding};
 pub use value_faults::put_value_fault;

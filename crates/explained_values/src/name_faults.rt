@@ -3,14 +3,12 @@
 ghost use Rattle.std.specs.Prelude.{◌≡◌, ◌++◌, Some, find, is_none, map, option_copied, option_map, OnOk};
 ghost use Rattle.explained_calls.specs.Sentences.{indented};
 ghost use Rattle.explained_values.specs.Arguments.{line_of};
-ghost use Rattle.explained_values.specs.NameFaults.{call_inside_words, different, far_words, is_among, near_words};
-ghost use Rattle.explained_values.specs.NameFaults.{new_word, not_bound_words, room_words, unbound_name_words, unbound_words};
+ghost use Rattle.explained_values.specs.NameFaults.{different, far_words, is_among, near_words};
+ghost use Rattle.explained_values.specs.NameFaults.{new_word, room_words, unbound_name_words, unbound_words};
 
 use crate::arguments::Argument;
-use crate::sentences::put_counted;
 use cvl_base::{Memory, NoResources, Op, op_of};
-use explained_calls::{near, put_pieces, put_spelling};
-use itoa::Buffer;
+use explained_calls::{Counted, Line, Number, Spelling, Words, near, said};
 
 /// The words to add if no name is near.
 fn far_words(names: &[&[u8]]) -> &'static [u8]
@@ -22,47 +20,25 @@ fn far_words(names: &[&[u8]]) -> &'static [u8]
     }
 }
 
-/// Writes the bound name that is near, if one is.
-fn put_near<B: Memory>(
-    names: &[&[u8]],
-    name: Option<&[u8]>,
-    text: &mut Vec<u8, B>,
-) -> Result<(), NoResources>
-    ensures { OnOk result (text.new.items ≡ text.old.items
-        ++ near_words (map (λ name. name.now) names.now) (option_map (λ name. name.now) name.entry)) }
-{
-    match name {
-        None => put_pieces(text, &[far_words(names)]),
-        Some(name) => put_pieces(text, &[b"; the nearest name is ", name]),
+/// The bound name that is near, if one is.
+#[derive(Drop)]
+struct Near<'n> {
+    names: &'n [&'n [u8]],
+    name: Option<&'n [u8]>,
+}
+
+impl<'n> Words for Near<'n> {
+    ghost words = { λ near. near_words (map (λ name. name.now) near.names.now) (option_map (λ name. name.now) near.name) };
+
+    fn put<A: Memory>(&self, text: &mut Vec<u8, A>) -> Result<(), NoResources> {
+        match self.name {
+            None => far_words(self.names).put(text),
+            Some(name) => said![b"; the nearest name is ", name].put(text),
+        }
     }
 }
 
-/// Writes the line about a name that is not bound, with a bound one that is near.
-fn put_not_bound<B: Memory>(
-    alloc: B,
-    names: &[&[u8]],
-    word: &[u8],
-    text: &mut Vec<u8, B>,
-) -> Result<(), NoResources>
-    ensures { OnOk result (text.new.items
-        ≡ text.old.items ++ indented (not_bound_words (map (λ name. name.now) names.now) word.now)) }
-{
-    put_pieces(text, &[b"  ", word, b" is not bound"])?;
-    put_near(names, near(alloc, word, names)?, text)?;
-    put_pieces(text, &[b"\n"])
-}
-
-/// Writes the line about a call among the arguments of a call.
-fn put_call_inside<B: Memory>(op: Op, word: &[u8], text: &mut Vec<u8, B>) -> Result<(), NoResources>
-    ensures { OnOk result (text.new.items ≡ text.old.items ++ indented (call_inside_words op word.now)) }
-{
-    put_pieces(text, &[b"  ", word, b" is a call, and "])?;
-    put_spelling(op, text)?;
-    let end = b" takes names of values and not calls: bind its result first\n";
-    put_pieces(text, &[end])
-}
-
-/// Writes the line about a name that is not bound.
+/// Writes the line about a name that is not bound: a call, or a name with a bound one that is near.
 fn put_unbound_name<B: Memory>(
     alloc: B,
     names: &[&[u8]],
@@ -74,10 +50,11 @@ fn put_unbound_name<B: Memory>(
         ≡ text.old.items ++ indented (unbound_name_words (map (λ name. name.now) names.now) op word.now)) }
 {
     if op_of(word).is_some() {
-        put_call_inside(op, word, text)
-    } else {
-        put_not_bound(alloc, names, word, text)
+        let end = b" takes names of values and not calls: bind its result first";
+        return Line(said![word, b" is a call, and ", Spelling(op), end]).put(text);
     }
+    let name = near(alloc, word, names)?;
+    Line(said![word, b" is not bound", Near { names, name }]).put(text)
 }
 
 /// The first argument without a value.
@@ -144,10 +121,8 @@ pub(crate) fn put_too_many<B: Memory>(
     ensures { OnOk result (text.new.items
         ≡ text.old.items ++ line_of (Some (room_words (map (λ name. name.now) names.now) op))) }
 {
-    put_pieces(text, &[b"  the lines before bind "])?;
-    put_counted(different(names), b"name", text)?;
-    let mut digits = Buffer::new();
-    let binds = digits.format(op.binds()).as_bytes();
-    let end = b": at most 4096 may be bound\n";
-    put_pieces(text, &[b", and this line binds ", binds, end])
+    let names = Counted(different(names), b"name");
+    let (middle, binds) = (b", and this line binds ", Number(op.binds()));
+    let end = b": at most 4096 may be bound";
+    Line(said![b"the lines before bind ", names, middle, binds, end]).put(text)
 }

@@ -2,18 +2,17 @@
 
 ghost use Rattle.std.specs.Prelude.{◌≡◌, ◌++◌, OnOk};
 ghost use Rattle.explained_values.specs.Arguments.{line_of};
-ghost use Rattle.explained_values.specs.NumberWords.{inputs_words, length_argument, meaning_of};
-ghost use Rattle.explained_values.specs.NumberWords.{number_argument, number_name, number_words};
+ghost use Rattle.explained_values.specs.NumberWords.{length_argument, meaning_of};
+ghost use Rattle.explained_values.specs.NumberWords.{number_argument, number_name};
 ghost use Rattle.explained_values.specs.NumberWords.{reason_words};
 ghost use Rattle.explained_values.specs.ValueFaults.{number_fault_words};
 
 use crate::arguments::{Argument, spelled_at};
 use crate::index_words::{put_places, put_repeated};
-use crate::sentences::{put_counted, put_element_name};
+use crate::sentences::Element;
 use cvl_base::name::is_word_text;
 use cvl_base::{FaultNo, Kind, Memory, NoResources, Op};
-use explained_calls::put_pieces;
-use itoa::Buffer;
+use explained_calls::{Counted, Number, Words, said};
 
 /// Which argument gives the length of the result.
 fn length_argument(op: Op) -> Option<usize>
@@ -64,21 +63,12 @@ fn put_number_name<A: Memory, B: Memory>(
 {
     let word = argument.word();
     if let Some(Kind::Integers) = argument.kind() {
-        put_element_name(word, place, text)
+        Element(word, place).put(text)
     } else if is_word_text(word) {
-        put_pieces(text, &[word])
+        word.put(text)
     } else {
-        put_pieces(text, &[meaning_of(number)])
+        meaning_of(number).put(text)
     }
-}
-
-/// Writes how many inputs there are, and from where they count.
-fn put_inputs<B: Memory>(inputs: usize, text: &mut Vec<u8, B>) -> Result<(), NoResources>
-    ensures { OnOk result (text.new.items ≡ text.old.items ++ inputs_words inputs) }
-{
-    put_pieces(text, &[b", and the run has "])?;
-    put_counted(inputs, b"input", text)?;
-    put_pieces(text, &[b"; inputs count from 1"])
 }
 
 /// Writes why a call has no value for a number.
@@ -94,19 +84,21 @@ fn put_reason<A: Memory, B: Memory>(
 {
     match number {
         FaultNo::DivideByZero => {
-            put_pieces(text, &[b", and "])?;
-            put_element_name(spelled_at(arguments, 0).word(), place, text)?;
-            put_pieces(text, &[b" cannot be divided by it"])
+            let divided = Element(spelled_at(arguments, 0).word(), place);
+            said![b", and ", divided, b" cannot be divided by it"].put(text)
         }
-        FaultNo::ShiftOutOfRange => put_pieces(text, &[b", and a shift is from 0 to 31"]),
+        FaultNo::ShiftOutOfRange => b", and a shift is from 0 to 31".put(text),
         FaultNo::IndexOutOfRange => {
-            put_pieces(text, &[b", and "])?;
+            b", and ".put(text)?;
             put_places(op, arguments, place, text)
         }
         FaultNo::IndexRepeated => put_repeated(op, arguments, place, text),
-        FaultNo::NegativeLength => put_pieces(text, &[b", and a length is 0 or more"]),
-        FaultNo::TooLong => put_pieces(text, &[b", and a vector has at most 4194304 elements"]),
-        FaultNo::NoSuchInput => put_inputs(inputs, text),
+        FaultNo::NegativeLength => b", and a length is 0 or more".put(text),
+        FaultNo::TooLong => b", and a vector has at most 4194304 elements".put(text),
+        FaultNo::NoSuchInput => {
+            let inputs = Counted(inputs, b"input");
+            said![b", and the run has ", inputs, b"; inputs count from 1"].put(text)
+        }
         _ => Ok(()),
     }
 }
@@ -130,10 +122,9 @@ pub(crate) fn put_number_fault<A: Memory, B: Memory>(
     let Some(culprit) = argument.integer_at(place) else {
         return Ok(());
     };
-    put_pieces(text, &[b"  "])?;
+    b"  ".put(text)?;
     put_number_name(number, &argument, place, text)?;
-    let mut digits = Buffer::new();
-    put_pieces(text, &[b" is ", digits.format(culprit).as_bytes()])?;
+    said![b" is ", Number(culprit)].put(text)?;
     put_reason(inputs, op, arguments, number, place, text)?;
-    put_pieces(text, &[b"\n"])
+    b"\n".put(text)
 }

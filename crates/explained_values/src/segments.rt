@@ -1,13 +1,12 @@
 //! The segment that has a call's fault.
 
-ghost use Rattle.std.specs.Prelude.{◌≡◌, ℕ, ◌≤◌, ◌++◌, List, OnOk, length, map, slice_index, sum, unsigned_abs};
+ghost use Rattle.std.specs.Prelude.{◌≡◌, ◌≤◌, length, map, slice_index, sum, unsigned_abs};
 ghost use Rattle.cvl_base.specs.Limits.{most_elements};
 ghost use Rattle.explained_values.specs.Segments.{part_words, places_of, segment_at, segment_of, start_at, start_of};
 
 use crate::arguments::{Argument, spelled_at};
 use cvl_base::{Cut, Form, Memory, NoResources, Op};
-use explained_calls::put_pieces;
-use itoa::Buffer;
+use explained_calls::{Number, Words, said};
 
 /// What the place of a fault counts.
 #[derive(Clone, Copy)]
@@ -119,20 +118,20 @@ pub(crate) fn start_at<A: Memory>(
     }
 }
 
-/// Writes the name of a vector, or of a segment of it: `segment 1 of v`.
-pub(crate) fn put_part<B: Memory>(
-    segment: Option<usize>,
-    vector: &[u8],
-    text: &mut Vec<u8, B>,
-) -> Result<(), NoResources>
-    ensures { OnOk result (text.new.items ≡ text.old.items ++ part_words segment vector.now) }
-{
-    match segment {
-        None => put_pieces(text, &[vector]),
-        Some(segment) => {
-            let mut digits = Buffer::new();
-            let number = digits.format(segment).as_bytes();
-            put_pieces(text, &[b"segment ", number, b" of ", vector])
+/// The name of a vector, or of a segment of it: `segment 1 of v`.
+#[derive(Drop)]
+pub(crate) struct Part<'a> {
+    pub(crate) segment: Option<usize>,
+    pub(crate) vector: &'a [u8],
+}
+
+impl<'a> Words for Part<'a> {
+    ghost words = { λ part. part_words part.segment part.vector.now };
+
+    fn put<A: Memory>(&self, text: &mut Vec<u8, A>) -> Result<(), NoResources> {
+        match self.segment {
+            None => self.vector.put(text),
+            Some(segment) => { said![b"segment ", Number(segment), b" of ", self.vector].put(text) }
         }
     }
 }

@@ -1,34 +1,18 @@
-//! Sentences, part by part.
+//! The name of an element, in words.
 
-ghost use Rattle.std.specs.Prelude.{◌≡◌, ◌++◌, OnOk};
-ghost use Rattle.explained_calls.specs.Sentences.{counted};
 ghost use Rattle.explained_values.specs.Arguments.{element_name};
 
 use cvl_base::{Memory, NoResources};
-use explained_calls::{ending, put_pieces};
-use itoa::Buffer;
+use explained_calls::{Number, Words, said};
 
-/// Writes how many things there are, `8 elements`.
-pub(crate) fn put_counted<B: Memory>(
-    count: usize,
-    thing: &[u8],
-    text: &mut Vec<u8, B>,
-) -> Result<(), NoResources>
-    ensures { OnOk result (text.new.items ≡ text.old.items ++ counted count thing.now) }
-{
-    let mut digits = Buffer::new();
-    put_pieces(text, &[digits.format(count).as_bytes(), b" ", thing])?;
-    put_pieces(text, &[ending(count)])
-}
+/// The element of a vector at a place: `v[3]`.
+#[derive(Drop)]
+pub(crate) struct Element<'a>(pub(crate) &'a [u8], pub(crate) usize);
 
-/// Writes the name of an element, `v[3]`.
-pub(crate) fn put_element_name<B: Memory>(
-    vector: &[u8],
-    place: usize,
-    text: &mut Vec<u8, B>,
-) -> Result<(), NoResources>
-    ensures { OnOk result (text.new.items ≡ text.old.items ++ element_name vector.now place) }
-{
-    let mut digits = Buffer::new();
-    put_pieces(text, &[vector, b"[", digits.format(place).as_bytes(), b"]"])
+impl<'a> Words for Element<'a> {
+    ghost words = { λ element. element_name element.0.now element.1 };
+
+    fn put<A: Memory>(&self, text: &mut Vec<u8, A>) -> Result<(), NoResources> {
+        said![self.0, b"[", Number(self.1), b"]"].put(text)
+    }
 }

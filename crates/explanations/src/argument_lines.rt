@@ -1,19 +1,17 @@
 //! The arguments of a call in an explanation: what each name holds, and the line that bound it.
 
-ghost use Rattle.std.specs.Prelude.{◌≡◌, ◌++◌, OnOk, option_copied};
+ghost use Rattle.std.specs.Prelude.{◌≡◌, ◌++◌, OnOk, option_copied, option_map};
 ghost use Rattle.std.specs.List.{list_any};
 ghost use Rattle.bound_names.specs.Arguments.{arg_value};
 ghost use Rattle.explained_values.specs.Arguments.{value_held};
-ghost use Rattle.explanations.specs.ArgumentLines.{argument_line, argument_lines, binding_words, input_words};
+ghost use Rattle.explanations.specs.ArgumentLines.{argument_line, argument_lines, binding_words, file_words, input_words};
 ghost use Rattle.explanations.specs.ArgumentLines.{is_named, names_in, new_line};
 
 use crate::bindings::{Binding, last_binding};
 use crate::input_files::file_at;
 use cvl_base::{Arg, Memory, Name, NoResources};
-use explained_calls::{put_pieces, put_shown};
-use explained_values::arguments::Holding;
-use explained_values::{Argument, put_argument};
-use itoa::Buffer;
+use explained_calls::{Line, Number, Shown, Words, said};
+use explained_values::{Argument, Holding};
 use vector_handles::Session;
 
 /// What an argument holds in a session.
@@ -30,50 +28,62 @@ pub(crate) fn holding_of<'a, A: Memory>(session: &'a Session<A>, arg: &Arg) -> H
     }
 }
 
-/// Appends which input a line binds a name to.
-fn put_input<A: Memory>(
-    files: &[&str],
-    number: Option<i32>,
-    text: &mut Vec<u8, A>,
-) -> Result<(), NoResources>
-    ensures { OnOk result (text.new.items ≡ text.old.items ++ input_words (names_in files.now) number) }
-{
-    let Some(number) = number else {
-        return Ok(());
-    };
-    put_pieces(
-        text,
-        &[b" by input ", Buffer::new().format(number).as_bytes()],
-    )?;
-    match file_at(files, number) {
-        None => Ok(()),
-        Some(file) => {
-            put_pieces(text, &[b" ("])?;
-            put_shown(text, file.as_bytes())?;
-            put_pieces(text, &[b")"])
+/// The name of an input's file, if it is known: ` (index.txt)`.
+#[derive(Drop)]
+struct InFile<'f>(Option<&'f str>);
+
+impl<'f> Words for InFile<'f> {
+    ghost words = { λ file. file_words (option_map (λ name. name.now) file.0) };
+
+    fn put<A: Memory>(&self, text: &mut Vec<u8, A>) -> Result<(), NoResources> {
+        match self.0 {
+            None => Ok(()),
+            Some(file) => said![b" (", Shown(file.as_bytes()), b")"].put(text),
         }
     }
 }
 
-/// Appends what bound a name.
-fn put_binding<A: Memory>(
-    files: &[&str],
-    binding: Option<&Binding>,
-    text: &mut Vec<u8, A>,
-) -> Result<(), NoResources>
-    ensures { OnOk result (text.new.items ≡ text.old.items ++ binding_words (names_in files.now) (option_copied binding.entry)) }
-{
-    match binding {
-        None => put_pieces(text, &[b", bound before the script"]),
-        Some(binding) => {
-            put_pieces(
-                text,
-                &[
-                    b", bound at line ",
-                    Buffer::new().format(binding.line).as_bytes(),
-                ],
-            )?;
-            put_input(files, binding.input, text)
+/// Which input a line binds a name to: ` by input 2 (index.txt)`.
+#[derive(Drop)]
+struct ByInput<'s, 'f> {
+    files: &'s [&'f str],
+    number: Option<i32>,
+}
+
+impl<'s, 'f> Words for ByInput<'s, 'f> {
+    ghost words = { λ by. input_words (names_in by.files.now) by.number };
+
+    fn put<A: Memory>(&self, text: &mut Vec<u8, A>) -> Result<(), NoResources> {
+        match self.number {
+            None => Ok(()),
+            Some(number) => {
+                let file = InFile(file_at(self.files, number));
+                said![b" by input ", Number(number), file].put(text)
+            }
+        }
+    }
+}
+
+/// What bound a name: `, bound at line 1 by input 2 (index.txt)`.
+#[derive(Drop)]
+struct Bound<'s, 'f, 'b> {
+    files: &'s [&'f str],
+    binding: Option<&'b Binding>,
+}
+
+impl<'s, 'f, 'b> Words for Bound<'s, 'f, 'b> {
+    ghost words = { λ bound. binding_words (names_in bound.files.now) (option_copied bound.binding) };
+
+    fn put<A: Memory>(&self, text: &mut Vec<u8, A>) -> Result<(), NoResources> {
+        match self.binding {
+            None => b", bound before the script".put(text),
+            Some(binding) => {
+                let input = ByInput {
+                    files: self.files,
+                    number: binding.input,
+                };
+                said![b", bound at line ", Number(binding.line), input].put(text)
+            }
         }
     }
 }
@@ -89,17 +99,14 @@ fn put_name<A: Memory>(
     ensures { OnOk result (text.new.items ≡ text.old.items
         ++ argument_line session.now.names (names_in files.now) bindings.now (Arg.Name name.now)) }
 {
-    let value = session.get(name);
-    let holding = match value {
-        Some(value) => Holding::Value(value),
-        None => Holding::Nothing,
-    };
-    put_pieces(text, &[b"  "])?;
-    put_argument(&Argument::new(name.as_bytes(), holding), text)?;
-    if value.is_some() {
-        put_binding(files, last_binding(bindings, name), text)?;
+    match session.get(name) {
+        Some(value) => {
+            let argument = Argument::new(name.as_bytes(), Holding::Value(value));
+            let binding = last_binding(bindings, name);
+            Line(said![argument, Bound { files, binding }]).put(text)
+        }
+        None => Line(Argument::<A>::new(name.as_bytes(), Holding::Nothing)).put(text),
     }
-    put_pieces(text, &[b"\n"])
 }
 
 /// Whether an argument is this name.

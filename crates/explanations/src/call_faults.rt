@@ -11,10 +11,9 @@ use crate::argument_lines::{holding_of, put_arguments};
 use crate::bindings::Binding;
 use crate::input_files::file_at;
 use cvl_base::{Arg, Call, Fault, FaultNo, Memory, NoResources, Op, Value};
-use explained_calls::put_call_words;
-use explained_inputs::{put_file_words, put_input_fault};
-use explained_values::arguments::Holding;
-use explained_values::{Argument, put_value_fault};
+use explained_calls::{CallWords, Line, Shown, Words, said};
+use explained_inputs::put_input_fault;
+use explained_values::{Argument, Holding, put_value_fault};
 use itoa::Buffer;
 use std::thread::Threads;
 use vector_handles::Session;
@@ -127,7 +126,7 @@ fn put_numbers<A: Memory>(
     }
     let words =
         b" is a list of numbers, which input reads; nested reads a list of lists, as [[1 2] []]";
-    put_file_words(file, words, text)
+    Line(said![Shown(file), words]).put(text)
 }
 
 /// Appends what is wrong with an input, by its text if that is no list of numbers.
@@ -211,7 +210,7 @@ pub(crate) fn put_call<R: Threads + Sync, A: Memory>(
     ensures { OnOk result (text.new.items ≡ text.old.items
         ++ explained_call session.now.names (names_in files.now) session.now.inputs bindings.now call.now fault) }
 {
-    put_call_words(call.op, text)?;
+    Line(CallWords(call.op)).put(text)?;
     put_arguments(session, files, bindings, call.args.as_slice(), text)?;
     if reads_input(call.op) && is_of_text(fault.number) {
         let number = number_asked(session, call.args.as_slice());

@@ -10,8 +10,7 @@ ghost use Rattle.line_reader.specs.Lines.{call_of};
 use crate::bindings::{Binding, stopped_at};
 use crate::call_faults::put_call;
 use cvl_base::{Fault, Memory, NoResources, Refused};
-use explained_calls::{put_front, put_line_fault, put_pieces};
-use itoa::Buffer;
+use explained_calls::{Front, Line, Number, Words, put_line_fault, said};
 use line_reader::read_line;
 use script_runs::Stop;
 use std::thread::Threads;
@@ -32,26 +31,16 @@ const MOST_TOLD: usize = 200;
 fn put_quoted<A: Memory>(number: u32, line: &[u8], text: &mut Vec<u8, A>) -> Result<(), NoResources>
     ensures { OnOk result (text.new.items ≡ text.old.items ++ quoted number line.now) }
 {
-    let mut digits = Buffer::new();
-    put_pieces(text, &[b"  ", digits.format(number).as_bytes(), b" | "])?;
-    put_front(text, MOST_TOLD, line)?;
-    put_pieces(text, &[b"\n"])
+    let front = Front(MOST_TOLD, line);
+    Line(said![Number(number), b" | ", front]).put(text)
 }
 
 /// Appends how long a script is, if it is too long.
 fn put_too_long<A: Memory>(script: &[u8], text: &mut Vec<u8, A>) -> Result<(), NoResources>
     ensures { OnOk result (text.new.items ≡ text.old.items ++ indented (too_long_words script.now)) }
 {
-    let mut digits = Buffer::new();
-    let bytes = digits.format(script.len()).as_bytes();
-    put_pieces(
-        text,
-        &[
-            b"  the script has ",
-            bytes,
-            b" bytes, and may have at most 1048576\n",
-        ],
-    )
+    let end = b" bytes, and may have at most 1048576";
+    Line(said![b"the script has ", Number(script.len()), end]).put(text)
 }
 
 /// Appends what is at fault in a line: in its form, or in its call.
@@ -143,8 +132,8 @@ pub fn explain<R: Threads + Sync, A: Memory>(
         Stop::Script { line, fault } => {
             put_fault(rt, alloc, session, files, script, *line, *fault, &mut text)?;
         }
-        Stop::NoResources { .. } => put_pieces(&mut text, &[MEMORY])?,
-        Stop::WriteFailed { .. } => put_pieces(&mut text, &[WRITE])?,
+        Stop::NoResources { .. } => MEMORY.put(&mut text)?,
+        Stop::WriteFailed { .. } => WRITE.put(&mut text)?,
     }
     Ok(text)
 }

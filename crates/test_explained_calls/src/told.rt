@@ -2,7 +2,7 @@
 
 use crate::cases::{CALLS, LINES};
 use cvl_base::{FaultNo, Memory, NoResources};
-use explained_calls::{nearest, put_call_words, put_line_fault};
+use explained_calls::{CallWords, Line, Words, nearest, put_line_fault};
 use refusing_memory::withstands_refusals;
 use std::test::Fail;
 
@@ -30,7 +30,7 @@ fn lines(rt: HostRuntime) -> Result<(), Fail> {
 fn calls(rt: HostRuntime) -> Result<(), Fail> {
     for (op, told) in &CALLS {
         let mut text = Vec::from_slice(rt.alloc(), b"before".as_slice())?;
-        put_call_words(*op, &mut text)?;
+        Line(CallWords(*op)).put(&mut text)?;
         let (before, behind) = text.as_slice().split_at(6);
         assert_eq!(rt; before, b"before".as_slice());
         assert_eq!(rt; behind, told.as_bytes());

@@ -1,12 +1,12 @@
 use Rattle.std.proofs.Common.{◌≡◌, ◌++◌, length, map}
 use Rattle.std.specs.List.{concat}
 use Rattle.explained_calls.specs.Shown.{characters, fitting, shown_character}
-use Rattle.explained_calls.proofs.shown.put_fitting.Given as goal
+use Rattle.explained_calls.proofs.shown.FittingWords.put.Given as goal
 
 abbrev pub invariant-loop-character : goal.invariant-loop-character
 invariant-loop-character g l =
     l.text.items ++ concat (map shown_character (fitting l.left (characters l.rest)))
-    ≡ l.initial.text.items ++ concat (map shown_character (fitting l.most (characters l.bytes)))
+    ≡ l.initial.text.items ++ concat (map shown_character (fitting l.self.0 (characters l.self.1.now)))
 
 abbrev pub decreases-loop-character : goal.decreases-loop-character
 decreases-loop-character g l = length l.rest
