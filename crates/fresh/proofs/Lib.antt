@@ -3,6 +3,7 @@ pub mod Copied
 pub mod Crosses
 pub mod FirstWithout
 pub mod Halves
+pub mod InTurn
 pub mod Maps
 pub mod Memory
 pub mod PartWalk

@@ -11,6 +11,7 @@ mod parts;
 mod room;
 mod run;
 mod shares;
+mod sixteens;
 mod slices_over;
 mod starts;
 

@@ -1,5 +1,5 @@
 use Rattle.fresh.proofs.Cited.{◌≡◌, ◌-◌, List, ◌++◌, take, AllZip, zip, stretch}
-use Rattle.fresh.proofs.run.Run.fill_from_both.Given as goal
+use Rattle.fresh.proofs.run.Run.fill_each_from_both.Given as goal
 
 abbrev pub invariant-loop-k : goal.invariant-loop-k
 invariant-loop-k g l =

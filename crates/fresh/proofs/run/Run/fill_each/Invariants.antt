@@ -1,5 +1,5 @@
 use Rattle.fresh.proofs.Cited.{◌≡◌, ◌-◌, List, ◌++◌, take, AllZip, stretch}
-use Rattle.fresh.proofs.run.Run.fill_from.Given as goal
+use Rattle.fresh.proofs.run.Run.fill_each.Given as goal
 
 abbrev pub invariant-loop-x : goal.invariant-loop-x
 invariant-loop-x g l =
