@@ -84,20 +84,24 @@ static size_t vary(size_t segments, size_t from, size_t to) {
 }
 
 /* A scan and a reduce of many such segments. */
-static uint64_t scan(size_t from, size_t to) {
+static uint64_t scan_by(uint32_t op, size_t from, size_t to) {
     const size_t n = vary(MANY_SEGMENTS, from, to);
-    return STEPS(cvl_seg_int_scan(CVL_ADD, elements, n, (CvlLengths){lengths, MANY_SEGMENTS}, out, n));
+    return STEPS(cvl_seg_int_scan(op, elements, n, (CvlLengths){lengths, MANY_SEGMENTS}, out, n));
 }
+
+/* Scans of sums and of maxima. */
+static uint64_t sums(size_t from, size_t to) { return scan_by(CVL_ADD, from, to); }
+static uint64_t maxima(size_t from, size_t to) { return scan_by(CVL_MAX, from, to); }
 
 static uint64_t reduce(size_t from, size_t to) {
     const size_t n = vary(MANY_SEGMENTS, from, to);
     return STEPS(cvl_seg_int_reduce(CVL_ADD, elements, n, (CvlLengths){lengths, MANY_SEGMENTS}, out, MANY_SEGMENTS));
 }
 
-/* A scan of so many segments, all of which vary. */
+/* A scan of the maxima of so many segments, all of which vary. */
 static uint64_t scan_of_segments(size_t segments) {
     const size_t n = vary(segments, 0, segments);
-    return STEPS(cvl_seg_int_scan(CVL_ADD, elements, n, (CvlLengths){lengths, segments}, out, n));
+    return STEPS(cvl_seg_int_scan(CVL_MAX, elements, n, (CvlLengths){lengths, segments}, out, n));
 }
 
 /* A sort of so many keys that are in order, of which eight are equal each time. */
@@ -198,7 +202,10 @@ int main(void) {
         "no segment is looked at alone where each index is a place of the shortest",
         at_once + SEGMENTS * 10 < back_permute(LONGEST));
     index[0] = 0;
-    walks("segments that vary are scanned many at once, and others one by one", scan);
+    walks("segments that vary are scanned many at once, and others one by one", maxima);
+    check(
+        "a scan of segments that vary keeps one sum, and a maximum for each",
+        maxima(0, MANY_SEGMENTS) - sums(0, MANY_SEGMENTS) > 2 * (maxima(0, 0) - sums(0, 0)));
     walks("segments that vary are reduced many at once, and others one by one", reduce);
     check("a digit that all keys share is passed over", 3 * sort(1600) < 2 * sort_of_any(1600));
     /* a block of 1,024 indices */

@@ -36,6 +36,12 @@ pub trait Monoid {
         requires second { IsTrue (is_item b) }
         ensures { result ≡ join a b };
 
+    /// Whether a processor joins two items in one step, so that a loop may wait for each join before it begins the next one.
+    /// Nothing is claimed of the answer, which only decides how fast a walk is.
+    fn joins_in_one_step() -> bool {
+        false
+    }
+
     ghost laws: { MonoidLaws is_item unit join };
 }
 

@@ -57,6 +57,11 @@ pub trait Operator: Binary<Self::Value, Self::Value> {
     /// The item that changes no other when it is joined to it.
     const UNIT: Self::Value;
 
+    /// The same as [`Monoid::joins_in_one_step`].
+    fn applies_in_one_step() -> bool {
+        false
+    }
+
     ghost associates: { MonoidLaws Self.Value.is_item UNIT Self.value };
 }
 
@@ -81,6 +86,10 @@ impl<O: Operator> Monoid for O {
 
     fn join(a: O::Value, b: O::Value) -> O::Value {
         O::apply(a, b)
+    }
+
+    fn joins_in_one_step() -> bool {
+        O::applies_in_one_step()
     }
 }
 

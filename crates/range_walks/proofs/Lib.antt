@@ -1,6 +1,7 @@
 pub mod Cut
 pub mod Few
 pub mod LastStart
+pub mod OneSum
 pub mod RangeParts
 pub mod Scanned
 pub mod SegmentNumbers

@@ -105,7 +105,7 @@ module _ {Item : Type 0} (join : Item → Item → Item) (unit : Item) where
   pub length-reduced : (lengths : List ℕ) (xs : List Item) → length (reduces_of join unit lengths xs) ≡ length lengths
   length-reduced lengths xs = length-map (cut_of lengths xs) (fold_of join unit) ∙ length-cut lengths xs
 
-  none_joined : (lengths : List ℕ) → reduces_of join unit lengths [] ≡ replicate (length lengths) unit
+  pub none_joined : (lengths : List ℕ) → reduces_of join unit lengths [] ≡ replicate (length lengths) unit
   none_joined [] = refl
   none_joined (n ∷ ls) = (λ i. fold_of join unit (take_all n [] (omega arith) i) ∷ reduces_of join unit ls (drop_all n [] (omega arith) i)) ∙ ap (λ sums. unit ∷ sums) (none_joined ls)
 
@@ -136,7 +136,7 @@ module _ {Item : Type 0} (join : Item → Item → Item) (unit : Item) where
   reduced_later n ls xs place m is = cc (is, take-take n (n + m) xs (omega arith), drop-take n m xs)
 
   -- an element at the place is joined to the reduce of segment s, which was `before`
-  reduced_more : (lengths : List ℕ) (xs : List Item) (place s : ℕ) (d before x next : Item) → IsIn lengths s place → place < length xs → x ≡ get_or xs place x
+  pub reduced_more : (lengths : List ℕ) (xs : List Item) (place s : ℕ) (d before x next : Item) → IsIn lengths s place → place < length xs → x ≡ get_or xs place x
       → before ≡ get_or (reduces_of join unit lengths (take place xs)) s d → next ≡ join before x
       → set (reduces_of join unit lengths (take place xs)) s next ≡ reduces_of join unit lengths (take (place + 1) xs)
   reduced_more [] xs place s d before x next holds within is_x is_before is_next = absurd (omega (arith, holds.1, start_of_all [] (s + 1) (omega arith)))

@@ -53,6 +53,37 @@ fn scans_by_ends<M: Monoid, X: Copy, E: Reading<X, M::Item>>(
     run
 }
 
+/// The same as [`scans_by_ends`], by one sum that begins anew where segments end, if a processor joins two items in one step.
+/// Each join waits for the one before, also where a segment ends, but nothing is written or read for the sums.
+fn scans_by_one_sum<M: Monoid, X: Copy, E: Reading<X, M::Item>>(
+    run: Run<M::Item>,
+    lengths: &[i32],
+    ends: &[u8],
+    xs: &[X],
+) -> Run<M::Item>
+    requires lengths { AreLengthsWithin most_places lengths.now }
+    requires few { length lengths.now ≤ 128 }
+    requires covered { length xs.now ≤ sum (map unsigned_abs lengths.now) }
+    requires ends { AreEnds (map unsigned_abs lengths.now) ends.now }
+    requires places { length xs.now ≤ length ends.now }
+    requires room { length xs.now ≤ run.room }
+    requires items { AllPass (λ x. M.is_item (E.item x)) xs.now }
+    ensures { result ≡ with_items run (scans_of M.join M.unit (map unsigned_abs lengths.now) (map E.item xs.now)) }
+{
+    know_laws::<M>();
+    if !M::joins_in_one_step() {
+        return scans_by_ends::<M, X, E>(run, lengths, ends, xs);
+    }
+    let unit = M::unit();
+    let (mut run, mut so_far) = (run, unit);
+    for place in 0..xs.len() {
+        let sum = if ends[place] == 0 { so_far } else { unit };
+        run.push(sum);
+        so_far = M::join(sum, E::item(xs[place]));
+    }
+    run
+}
+
 /// Writes the scans of at most [`GROUP`] segments with these lengths, which have so many elements together. The end of the
 /// elements may cut the last ones short.
 fn scans_of_group<M: Monoid, X: Copy, E: Reading<X, M::Item>>(
@@ -74,7 +105,7 @@ fn scans_of_group<M: Monoid, X: Copy, E: Reading<X, M::Item>>(
     }
     let mut ends = [0; GROUP_ELEMENTS + 1];
     count_ends(lengths, &mut ends);
-    scans_by_ends::<M, X, E>(run, lengths, &ends, xs)
+    scans_by_one_sum::<M, X, E>(run, lengths, &ends, xs)
 }
 
 /// The same as [`scans_into`](crate::scans_into), many short segments at once.

@@ -1,6 +1,6 @@
 //! Short segments of uneven lengths. A loop over each of them ends where the processor does not expect it, which takes longer
 //! than the elements do. So `short_scans` and `short_reduces` have one loop over the elements of many segments, which keeps a sum
-//! for each of them.
+//! for each of them, or one that begins anew for each.
 
 ghost use Rattle.std.specs.Prelude.{◌≡◌, map, sum, unsigned_abs};
 ghost use Rattle.cvl_base.specs.Descriptors.{AreLengthsWithin};

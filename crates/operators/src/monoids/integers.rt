@@ -61,6 +61,10 @@ impl Operator for Add {
 
     const UNIT: i32 = 0;
 
+    fn applies_in_one_step() -> bool {
+        true
+    }
+
     ghost associates = { sum_laws };
 }
 
@@ -149,6 +153,10 @@ impl Operator for And {
 
     const UNIT: i32 = -1;
 
+    fn applies_in_one_step() -> bool {
+        true
+    }
+
     ghost associates = { and_laws };
 }
 
@@ -171,6 +179,10 @@ impl Operator for Ior {
 
     const UNIT: i32 = 0;
 
+    fn applies_in_one_step() -> bool {
+        true
+    }
+
     ghost associates = { ior_laws };
 }
 
@@ -192,6 +204,10 @@ impl Operator for Xor {
     ghost UNIT = { pos 0 };
 
     const UNIT: i32 = 0;
+
+    fn applies_in_one_step() -> bool {
+        true
+    }
 
     ghost associates = { xor_laws };
 }
