@@ -1,8 +1,9 @@
 //! Flat permutes: simple, back, select and default. Those of segments are in `segmented_permutes`.
 //!
 //! A simple, select or default permute takes two walks. The first finds the sender of each place of the result: the place whose
-//! element goes there. The second writes the elements, on several threads if the result is long. A long result takes one walk
-//! instead: each thread owns a range of it, writes the elements that are sent there over what stood there before, and counts the
+//! element goes there. The second writes the elements, on several threads if the result is long. A short simple or default
+//! permute takes one walk, which writes and marks each place, if that shows that no place is bad. A long result takes one walk
+//! too: each thread owns a range of it, writes the elements that are sent there over what stood there before, and counts the
 //! places that it wrote. `ways` chooses, for flat permutes and for those by segments. A back permute takes one walk, which checks
 //! each index and takes its element at once, on several threads if there are many.
 //!

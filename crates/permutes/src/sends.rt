@@ -6,10 +6,10 @@ ghost use Rattle.cvl_base.specs.Gives.{Gives};
 ghost use Rattle.cvl_base.specs.Limits.{most_elements};
 ghost use Rattle.cvl_base.specs.Permutes.{default_of, select_of, simple_of};
 
-use crate::one_or_two_walks::permuted;
+use crate::one_or_two_walks::{all_permuted, permuted};
 use crew::Gate;
 use cvl_base::{Config, Memory, Refused, check_agree, true_count};
-use permute_walks::{AllDestinations, Before, FlaggedDestinations};
+use permute_walks::{Before, FlaggedDestinations};
 use std::thread::Threads;
 
 /// Each element goes to its index, `d[i[k]] = s[k]`: `smp_puz` and `smp_pub`.
@@ -32,9 +32,7 @@ pub fn simple<T: Copy + Send + Sync, R: Threads + Sync, A: Memory, G: Gate>(
     ensures as_long { IfOk result (λ v. vec_len v ≡ length index.now) }
 {
     check_agree(source.len(), index.len())?;
-    let destinations = AllDestinations { index };
-    let before = Before::Any(source);
-    permuted(rt, alloc, config, source, &destinations, before, gate)
+    all_permuted(rt, alloc, config, source, index, Before::Any(source), gate)
 }
 
 /// Each element whose flag is true goes to its index: `sel_puz` and `sel_pub`.
@@ -85,7 +83,13 @@ pub fn default_into<T: Copy + Send + Sync, R: Threads + Sync, A: Memory, G: Gate
     ensures as_long { IfOk result (λ v. vec_len v ≡ length defaults.now) }
 {
     check_agree(source.len(), index.len())?;
-    let destinations = AllDestinations { index };
-    let before = Before::Defaults(defaults);
-    permuted(rt, alloc, config, source, &destinations, before, gate)
+    all_permuted(
+        rt,
+        alloc,
+        config,
+        source,
+        index,
+        Before::Defaults(defaults),
+        gate,
+    )
 }
