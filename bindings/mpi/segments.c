@@ -3,6 +3,7 @@
  * in the rank, of which the last may go on in ranks behind. What stands before the head comes from the ranks before, and what belongs to
  * the last from those behind; the plain family makes what lies between.
  */
+#include "driver.h"
 #include "ranks.h"
 
 /* The elements from a place of the rank to another one. */
@@ -156,35 +157,30 @@ static CvlFold last_of(const CvlCall *c) {
     return fold;
 }
 
-/* Writes a value to some places of the room, or the numbers from it on in steps. */
-static void write_from(CvlCall *c, size_t from, size_t n, int32_t value, int32_t stride) {
-    if (cvl_has_bools(c)) {
-        bool *const out = (bool *)cvl_room(c) + from;
-        for (size_t k = 0; k < n; k++) out[k] = value != 0;
-    } else {
-        int32_t *const out = (int32_t *)cvl_room(c) + from;
-        for (size_t k = 0; k < n; k++) out[k] = (int32_t)((uint32_t)value + (uint32_t)k * (uint32_t)stride);
-    }
+/* Writes what a segment of ranks before has at the front of the rank: its value, or its numbers in steps. */
+static void write_head(CvlCall *c, CvlFold before) {
+    const int64_t head = (int64_t)cvl_head_of(c->segments);
+    const uint32_t reached = (uint32_t)before.low + (uint32_t)c->segments->head_before * (uint32_t)before.high;
+    if (cvl_has_bools(c)) cvl_say(c, cvl_dis_vub(before.low != 0, head, cvl_room(c)));
+    else cvl_say(c, cvl_ind_luz((int32_t)reached, (int32_t)before.high, head, cvl_room(c)));
 }
 
-/* Writes those of the segments that start in the rank. The plain family asks for memory, which may be refused here when others have written. */
+/* Writes those of the segments that start in the rank: by the plain family, which asks for no memory. */
 static void write_starting(CvlCall *c) {
-    const CvlSlot a = c->in[CVL_AS_A], b = c->in[CVL_AS_B], starts = starting(c->segments, c->segments->starts);
-    size_t from = cvl_head_of(c->segments);
-    for (size_t k = 0; k < starts.number; k++) {
-        const size_t n = (size_t)((const int32_t *)starts.at)[k];
-        const int32_t value = cvl_has_bools(c) ? ((const bool *)a.at)[k] : ((const int32_t *)a.at)[k];
-        write_from(c, from, n, value, b.at != NULL ? ((const int32_t *)b.at)[k] : 0);
-        from += n;
-    }
+    const CvlRow *const row = &c->family->row;
+    const CvlSlot out = c->in[CVL_AS_OUT];
+    CvlSlot s[CVL_MOST_OPERANDS] = {{NULL, 0}};
+    for (size_t k = 0; k < row->operands; k++)
+        s[k] = cvl_is_cut_by(row, k) ? starting(c->segments, c->segments->starts) : c->s[k];
+    s[row->out] = range(out, bytes_of(c), cvl_head_of(c->segments), out.number);
+    cvl_say(c, row->make(c->op, s));
 }
 
 CvlStatus cvl_seg_values_over_ranks(CvlCall *c) {
     cvl_clean(c);
     const CvlFold before = cvl_before(c->ranks, last_of(c));
     if (cvl_agree(c, c->in[CVL_AS_OUT].number)) {
-        const uint32_t reached = (uint32_t)before.low + (uint32_t)c->segments->head_before * (uint32_t)before.high;
-        write_from(c, 0, cvl_head_of(c->segments), (int32_t)reached, (int32_t)before.high);
+        write_head(c, before);
         write_starting(c);
     }
     return c->status;
