@@ -165,7 +165,7 @@ static void write_head(CvlCall *c, CvlFold before) {
     else cvl_say(c, cvl_ind_luz((int32_t)reached, (int32_t)before.high, head, cvl_room(c)));
 }
 
-/* Writes those of the segments that start in the rank: by the plain family, which asks for no memory. */
+/* Writes the segments that start in the rank. The plain family makes them, and asks for no memory. */
 static void write_starting(CvlCall *c) {
     const CvlRow *const row = &c->family->row;
     const CvlSlot out = c->in[CVL_AS_OUT];

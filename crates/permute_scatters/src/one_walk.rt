@@ -13,7 +13,7 @@ use cvl_base::{Memory, NoResources, true_count};
 use fresh::{Writer, write_alone};
 
 /// Writes each element to its index over what stands there, and marks the place; false if an index names no place, and then
-/// neither means anything. Of several elements that are sent to one place the last stays.
+/// neither means anything. If several elements go to one place, the last one stays.
 // Without its sign an index below 0 is beyond the longest vector, so that one comparison is enough. Nothing that stands there is
 // read: a store alone is faster than a load, a comparison and a store.
 #[inline(never)]
