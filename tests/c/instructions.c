@@ -91,6 +91,8 @@ CALL(read_ints, cvl_read_ints(text + 1, written - 2, out, N, &count)) /* without
 
 CALL(seg_scan_add, cvl_seg_int_scan(CVL_ADD, a, N, LENGTHS, out, N))
 CALL(seg_scan_max, cvl_seg_int_scan(CVL_MAX, a, N, LENGTHS, out, N))
+CALL(seg_scan_add_in_place, cvl_seg_int_scan(CVL_ADD, out, N, LENGTHS, out, N))
+CALL(seg_scan_max_in_place, cvl_seg_int_scan(CVL_MAX, out, N, LENGTHS, out, N))
 CALL(seg_scan_or, cvl_seg_bool_scan(CVL_IOR, flags, N, LENGTHS, flags_out, N))
 CALL(seg_reduce_add, cvl_seg_int_reduce(CVL_ADD, a, N, LENGTHS, out, segments))
 CALL(seg_reduce_max, cvl_seg_int_reduce(CVL_MAX, a, N, LENGTHS, out, segments))
@@ -145,6 +147,8 @@ static const Call flat[] = {
 static const Call by_segments[] = {
     {"scan of sums", seg_scan_add},
     {"scan of maxima", seg_scan_max},
+    {"scan of sums in place", seg_scan_add_in_place},
+    {"scan of maxima in place", seg_scan_max_in_place},
     {"scan of booleans", seg_scan_or},
     {"reduce of sums", seg_reduce_add},
     {"reduce of maxima", seg_reduce_max},

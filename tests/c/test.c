@@ -1957,6 +1957,29 @@ static void long_numbers_of_segments(void) {
     LONG_INTS(cvl_seg_checked_reduce(long_index, n, S(d, segments), int_room, segments), segments);
 }
 
+/* Scans in place, of many short segments by one loop and of a long one among them by its own, are those into another array. */
+static void long_scans_in_place(void) {
+    static const uint32_t operators[] = {CVL_ADD, CVL_MUL, CVL_MAX, CVL_MIN, CVL_AND, CVL_IOR, CVL_XOR};
+    static int32_t ints[MOST];
+    static bool bools[MOST];
+    const CvlLengths d = S(long_lengths, long_segments);
+    const size_t n = MOST;
+    for (size_t k = 0; k < sizeof operators / sizeof *operators; k++) {
+        const uint32_t op = operators[k];
+        memcpy(ints, long_ints, sizeof ints);
+        tells("a scan into an array", cvl_seg_int_scan(op, long_ints, n, d, int_room, n), CVL_DONE, -1);
+        tells("a scan in place", cvl_seg_int_scan(op, ints, n, d, ints, n), CVL_DONE, -1);
+        if (memcmp(ints, int_room, sizeof ints) != 0) fail("a scan in place", "other integers");
+        calls += 2;
+        if (op != CVL_AND && op != CVL_IOR && op != CVL_XOR) continue;
+        memcpy(bools, long_bools, sizeof bools);
+        tells("a scan of booleans", cvl_seg_bool_scan(op, long_bools, n, d, bool_room, n), CVL_DONE, -1);
+        tells("a scan of booleans in place", cvl_seg_bool_scan(op, bools, n, d, bools, n), CVL_DONE, -1);
+        if (memcmp(bools, bool_room, sizeof bools) != 0) fail("a scan of booleans in place", "other booleans");
+        calls += 2;
+    }
+}
+
 /* Appends the decimal of a number to the long text. */
 static void put_decimal(int32_t number) {
     char digits[10];
@@ -2025,6 +2048,7 @@ static void long_rows(void) {
     long_permutes_of_segments();
     long_calls_of_segments();
     long_numbers_of_segments();
+    long_scans_in_place();
     long_texts();
 }
 

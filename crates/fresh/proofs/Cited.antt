@@ -10,9 +10,10 @@ pub use denote.Struct.Lending.{Lends-nothing, of_Lends}
 pub use denote.Struct.Owning.{fields, shape, to}
 pub use denote.Struct.Struct.{exits_of, Shape, Struct, within}
 pub use Rattle.std.proofs.Common.{[], ◌*◌, ◌++◌, ◌+◌, ◌-◌, ◌<◌, ◌^◌, ◌∙◌, ◌∷◌, ◌≡◌, ◌≤◌, ◌⊎◌, ap, append-nil, append_assoc, arith, drop, drop-drop, flat_map, get_or, inl, inr, length, length-append}
-pub use Rattle.std.proofs.Common.{List, map, min, None, Option, refl, replicate, rules, slice_set, Some, subst, suc, sum, sym, take, take-add, take-append-drop, take_all, zero, zip, ℕ}
+pub use Rattle.std.proofs.Common.{length-take, List, map, min, None, Option, refl, replicate, rules, slice_set, Some, subst, suc, sum, sym, take, take-add, take-append-drop, take-take, take_all}
+pub use Rattle.std.proofs.Common.{zero, zip, ℕ}
 pub use Rattle.std.proofs.lemmas.Grind.{common_steps, flat_map-append}
-pub use Rattle.std.proofs.lemmas.List.{drop-map, drop-replicate, length-replicate, nil_from_length, replicate-append-replicate, take-map, take-replicate, take_more}
+pub use Rattle.std.proofs.lemmas.List.{drop-map, drop-replicate, length-map, length-replicate, nil_from_length, replicate-append-replicate, take-map, take-replicate, take_more}
 pub use Rattle.std.proofs.lemmas.Slice.Zip.{all_zipped_more, get_or-zip, length-zip}
 pub use Rattle.std.specs.List.{AllZip}
 pub use Rattle.std.specs.Mem.{type_size}

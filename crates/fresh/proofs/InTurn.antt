@@ -1,5 +1,5 @@
 -- Items that go with numbers, some after others.
-use Rattle.fresh.proofs.Cited.{◌≡◌, ℕ, zero, suc, ◌+◌, ◌-◌, ◌<◌, ◌≤◌, inl, inr, List, [], ◌∷◌, ◌++◌, length, map, get_or, refl, sym, ap, ◌∙◌, subst, arith}
+use Rattle.fresh.proofs.Cited.{◌≡◌, ℕ, suc, ◌+◌, ◌-◌, ◌<◌, ◌≤◌, inl, inr, List, [], ◌∷◌, ◌++◌, length, map, get_or, refl, sym, ap, ◌∙◌, subst, arith}
 use Rattle.fresh.proofs.Cited.{length-append, AllZip, GoWith, Stretch, stretch, with_items}
 use Rattle.fresh.proofs.Maps.{zipped_map}
 use Rattle.fresh.proofs.Written.{written_twice}

@@ -2,17 +2,20 @@
 --     word_had, word_made, mark_had, mark_made      a value of one pointer, and one of no bytes
 --     cut, glue      a row of places is parted in two, and two rows that meet become one
 --     slot_out, slot_in      one place is taken out of the row, and put back
+--     value_out, value_in      one value is taken out of its place, and put there
 --     of_room, to_room      room for an array is a row of empty places
 use Rattle.fresh.proofs.Cited.{drop, Laws, param_laws, Shape, Struct, within, shape, type_size, slot, slots}
 use lib.Seq.{drop-cons, set_split}
 use denote.Laws.{Typed, Is, shows}
 use denote.Shadow.{makes_shadow}
 use denote.Struct.Declared as Declared
-use borrow.Table.OneValue.{part_in}
+use borrow.Table.OneValue.{part_in, part_out}
 use Rattle.fresh.proofs.Walks.{◌≡◌, refl, sym, ap, subst, ◌∙◌, ℕ, zero, suc, ◌+◌, ◌*◌, ◌<◌, ◌≤◌, arith, zero-mul, suc-mul, List, [], ◌∷◌, ◌++◌, map, length, take, set, get_or, replicate}
 use Rattle.fresh.proofs.Walks.{take-append-drop, length-take, Ura, full_share, Ty, ty_array, Val, vstruct, vcons, vnil, of_list, ent, sep, emp, id⊢, mono_r, Fml, ftrue, fsep, froom, Logic, sem}
 use Rattle.fresh.proofs.Walks.{Item, Goal, Seq, Step, step, ‵, ◌⊛◌, ◌$◌, ◌∵◌, !, qed, by, move, keep, drop as skip, use1, use2, split, frame, fsplit, fjoin, fpick, fpack, feq_i, feq_l, rewrite}
-use Rattle.fresh.proofs.Walks.{done, RattleType, Valss, param, layout, part_at, Ptr, RawPtr, ptr_val, row, nothing, peeks, Tuple, tuple_type, Option, Some, None, El, R, el_x, elτ, Good, word}
+use Rattle.fresh.proofs.Walks.{some, pick, show, check}
+use Rattle.fresh.proofs.Walks.{done, RattleType, Valss, param, layout, part_at, Ptr, RawPtr, ptr_val, row, nothing, peeks, ex, guard, fat, Tuple, tuple_type, Option, Some, None, El, R, el_x, elτ}
+use Rattle.fresh.proofs.Walks.{Good, word}
 use Rattle.fresh.specs.contracts.cells.Cells as C-type
 use Rattle.fresh.specs.contracts.cells.Base as B-type
 
@@ -60,6 +63,14 @@ module _ {M : Type 1} {𝓤 : Ura M} {𝓛 : Logic 𝓤} {K : Type 0} {Γ : List
 
 module _ (i : ℕ) (Y : RattleType) (L : Laws Y) {M : Type 1} {𝓤 : Ura M} (𝓛 : Logic 𝓤) where
   open 𝓛 use {H}
+
+  pub value_out : (x : Y.Denot) (b o : ℕ)
+      → ent 𝓤 (sem 𝓛 (part_at (param i Y) full_share x b o)) (ex 𝓤 (λ (v : Val). guard 𝓤 (Good (layout Y) v) (sep 𝓤 (H.at full_share (layout Y) b o v) (sem 𝓛 (Y.own_val x (v ∷ []))))))
+  value_out x b o = qed 𝓛 (‵ (part_at (param i Y) full_share x b o) ∷ []) ∵
+      use1 𝓛 (some (λ (v : Val). ‵ (fat full_share (layout Y) b o v) ⊛ ‵ (Y.own_val x (v ∷ [])))) (part_out 𝓛 (param i Y) refl full_share x b o) $ pick ! (λ v. split ! $ move ! (1 ∷ []) $
+      peeks ! (param i Y) (Is (param i Y)) (shows 𝓛 (param i Y)) x (v ∷ []) (λ p.
+      show ! (λ (w : Val). guard 𝓤 (Good (layout Y) w) (sep 𝓤 (H.at full_share (layout Y) b o w) (sem 𝓛 (Y.own_val x (w ∷ []))))) v $
+      check ! (((param_laws i Y L).lawful 𝓛).typed x (v ∷ []) p).0 $ move ! (1 ∷ 0 ∷ []) $ done !))
 
   pub value_in : (x : Y.Denot) (b o : ℕ) (v : Val) → ent 𝓤 (sep 𝓤 (H.at full_share (layout Y) b o v) (sem 𝓛 (Y.own_val x (v ∷ [])))) (sem 𝓛 (part_at (param i Y) full_share x b o))
   value_in x b o v = part_in 𝓛 (param i Y) refl full_share x b o v

@@ -1,7 +1,8 @@
 -- Lists of places that begin with items and end empty.
---     begun, front, back, pushed_on, joined_with      what a run is made of, and how it is seen
-use Rattle.fresh.proofs.Cited.{◌≡◌, ℕ, zero, suc, ◌+◌, ◌-◌, ◌<◌, ◌≤◌, ◌^◌, ◌⊎◌, inl, inr, List, [], ◌∷◌, ◌++◌, length, map, take, drop, replicate, slice_set, Option, Some, None, refl, sym, ap, ◌∙◌}
-use Rattle.fresh.proofs.Cited.{append-nil, arith, length-append, drop-replicate, replicate-append-replicate, take-replicate, Ptr, Follows, IsRun, Stretch, filled, somes, stretch}
+--     begun, front, back, pushed_on, last_there, popped, joined_with      what a run is made of, and how it is seen
+use Rattle.fresh.proofs.Cited.{◌≡◌, ℕ, zero, suc, ◌+◌, ◌-◌, ◌<◌, ◌≤◌, ◌^◌, ◌⊎◌, inl, inr, List, [], ◌∷◌, ◌++◌, length, map, take, drop, replicate, slice_set, get_or, Option, Some, None, refl}
+use Rattle.fresh.proofs.Cited.{sym, ap, ◌∙◌}
+use Rattle.fresh.proofs.Cited.{append-nil, arith, length-append, length-map, drop-replicate, replicate-append-replicate, take-replicate, Ptr, Follows, IsRun, Stretch, filled, somes, stretch}
 use Rattle.fresh.specs.declared.cells.Cells.{Cells}
 
 module _ {X : Type 0} where
@@ -40,6 +41,20 @@ module _ {X : Type 0} where
   pushed [] zero x some = absurd (omega arith)
   pushed [] (suc n) x some = let e : n ≡ suc n - 1 = omega arith in ap (λ j. Some x ∷ none j) e
   pushed (y ∷ xs) n x some = ap (λ l. Some y ∷ l) (pushed xs n x some)
+
+  -- a list that isn't empty, as its other items and its last one
+  ending : (xs : List X) → 0 < length xs → (ys : List X) × (y : X) × (xs ≡ ys ++ y ∷ [])
+  ending [] some = absurd (omega arith)
+  ending (x ∷ []) some = ([], x, refl)
+  ending (x ∷ y ∷ xs) some = let e = ending (y ∷ xs) (omega arith) in (x ∷ e.0, e.1, ap (λ l. x ∷ l) e.2)
+
+  last_filled : (xs : List X) (x : X) (n : ℕ) → get_or (filled (xs ++ x ∷ []) n) (length xs) None ≡ Some x
+  last_filled [] x n = refl
+  last_filled (y ∷ xs) x n = last_filled xs x n
+
+  popped_filled : (xs : List X) (x : X) (n : ℕ) → slice_set (filled (xs ++ x ∷ []) n) (length xs) None ≡ filled xs (n + 1)
+  popped_filled [] x n = let e : suc n ≡ n + 1 = omega arith in ap none e
+  popped_filled (y ∷ xs) x n = ap (λ l. Some y ∷ l) (popped_filled xs x n)
 
   -- what a run is made of, and how it is seen
   abbrev IsSeen : Cells X → Ptr → ℕ → ℕ → ℕ → Stretch X → Type 0
@@ -96,6 +111,43 @@ module _ {X : Type 0} where
         (wrote.2 ∙ (λ i. slice_set (run.laid i) (at i) (Some x)) ∙ pushed xs (len - written) x room)
         (omega (arith, length-append xs (x ∷ []), run.count.0)) (omega (arith, run.count.1)) run.count.2 in
         (m.0, m.1 ∙ ap (λ s. stretch s.block s.first (s.items ++ x ∷ []) (s.room - 1)) seen)
+
+    -- a run without its last item
+    module _ (some : 0 < length v.items) where
+      abbrev held : (ys : List X) × (y : X) × (xs ≡ ys ++ y ∷ [])
+      held = ending xs (omega (arith, some, long))
+
+      -- where the last item is
+      last : first + (written - 1) - c.from ≡ length held.0
+      last = omega (arith, run.place.1, run.count.0, ap length held.2, length-append held.0 (held.1 ∷ []))
+
+      laid_from : c.slots ≡ filled (held.0 ++ held.1 ∷ []) (len - written)
+      laid_from = run.laid ∙ ap (λ l. filled l (len - written)) held.2
+
+      last_is : get_or c.slots (first + (written - 1) - c.from) None ≡ Some held.1
+      last_is = (λ i. get_or (laid_from i) (last i) None) ∙ last_filled held.0 held.1 (len - written)
+
+      pub last_there : (c.from ≤ first + (written - 1)) × (first + (written - 1) - c.from < length c.slots)
+          × ((x : X) × (get_or c.slots (first + (written - 1) - c.from) None ≡ Some x))
+      last_there =
+          let sum = ap length laid_from ∙ length-append (map Some (held.0 ++ held.1 ∷ [])) (none (len - written)) in (
+            omega (arith, run.place.1),
+            omega (arith, last, sum, length-map (held.0 ++ held.1 ∷ []) Some, length-append held.0 (held.1 ∷ [])),
+            (held.1, last_is),
+          )
+
+      pub popped : (f : Cells X) (x : X) → get_or c.slots (first + (written - 1) - c.from) None ≡ Some x
+          → (f.at ≡ c.at) × (f.from ≡ c.from) × (f.slots ≡ slice_set c.slots (first + (written - 1) - c.from) None)
+          → IsRun f base first len (written - 1) × (v.items ≡ somes f.slots ++ x ∷ [])
+          × (stretch base first (somes f.slots) (len - (written - 1)) ≡ stretch v.block v.first (somes f.slots) (v.room + 1))
+      popped f x is took =
+          let m = made f base first len (written - 1) held.0 (len - written + 1) (took.0 ∙ run.place.0) (took.1 ∙ run.place.1)
+          (took.2 ∙ (λ i. slice_set (laid_from i) (last i) None) ∙ popped_filled held.0 held.1 (len - written))
+          (omega (arith, last, run.place.1)) (omega (arith, some, long, run.count.0, run.count.1)) run.count.2 in
+          let others : somes f.slots ≡ held.0 = ap (λ s. s.items) m.1 in
+          let same : held.1 ≡ x = ap (λ o. get_or (somes (o ∷ [])) 0 held.1) (sym last_is ∙ is) in
+          let left : len - (written - 1) ≡ v.room + 1 = omega (arith, ap (λ s. s.room) m.1, left) in
+          (m.0, sym (ap (λ s. s.items) seen) ∙ held.2 ∙ (λ i. sym others i ++ same i ∷ []), λ i. stretch (seen i).block (seen i).first (somes f.slots) (left i))
 
     -- a run and the one after it
     pub joined_with : {d : Cells X} {base' : Ptr} {first' len' written' : ℕ} {w : Stretch X} → IsRun d base' first' len' written' → stretch base' first' (somes d.slots) (len' - written') ≡ w

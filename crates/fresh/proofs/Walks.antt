@@ -20,7 +20,7 @@ pub use sound.WpLaws.{FmC, WpFn-mono}
 pub use types.Kit.{‵, raw, ◌⊛◌, given, later, at_ret, ◌$◌, ◌∵◌, !, qed, move, keep, drop, use0, use1, use2, split, join, rewrite, fsplit, fjoin, learn, await, flt_i, suffices}
 pub use types.Kit.{done, some, split3, pick, feq_l, flt_l, use3, fsplit3, fjoin3, feq_i, Item, by, frame, Goal, Seq, fpick, check, show, updating, now, Step, step, fpack}
 pub use types.Part.{agg, sub, whole, look_in, store_in}
-pub use types.Run.{stop, fld, of_opd, and_then, no_more, first, blocks, exec, returns, enter, load, addr, lit, assigns, assigns_last, unit_lit, init, bin, size_lit}
+pub use types.Run.{look, stop, fld, of_opd, and_then, no_more, first, blocks, exec, returns, enter, load, addr, lit, assigns, assigns_last, unit_lit, init, bin, size_lit}
 pub use types.ByLocal.{alloc_all, pass_all, free_all, look_at, get, get_in, sets, lands_last, is, env, through, sets_last, take_at, give_at}
 pub use denote.Exit.{no, yes}
 pub use denote.Param.{layout, param}

@@ -48,6 +48,17 @@ impl<T> Cells<T> {
         unsafe { base.ptr.add(index).write(item) }
     }
 
+    /// Takes the item out of the written place with this index, which is empty then.
+    pub(crate) fn read(&mut self, base: Base<T>, index: usize) -> T
+        requires { (base.ptr ≡ self.old.at) × (self.old.from ≤ index) × (index - self.old.from < length self.old.slots)
+            × ((x : T) × (get_or self.old.slots (index - self.old.from) None ≡ Some x)) }
+        ensures item { get_or self.old.slots (index - self.old.from) None ≡ Some result }
+        ensures others { (self.new.at ≡ self.old.at) × (self.new.from ≡ self.old.from)
+            × (self.new.slots ≡ slice_set self.old.slots (index - self.old.from) None) }
+    {
+        unsafe { base.ptr.add(index).read() }
+    }
+
     /// The first `k` places, and the others.
     pub(crate) fn split(self, k: usize) -> (Cells<T>, Cells<T>)
         requires { k ≤ length self.slots }

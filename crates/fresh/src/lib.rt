@@ -4,6 +4,7 @@
 mod block;
 mod cells;
 mod copies;
+mod few;
 mod fills;
 mod forks;
 mod found;
@@ -21,6 +22,7 @@ pub use block::Deed;
 #[doc(hidden)]
 pub use cells::{Base, Cells};
 pub use copies::{Copies, extend_by_copies};
+pub use few::FEW;
 pub use forks::{
     CheckedWriter, Writer, extend_in_runs, write_alone, write_checked_in_runs, write_in_runs,
     write_in_runs_by_rayon,

@@ -1,6 +1,6 @@
 //! A run of places of a block, which one thread writes from front to back.
-ghost use Rattle.std.specs.Prelude.{◌≡◌, ◌+◌, ◌-◌, ◌<◌, ◌≤◌, ◌⊎◌, List, [], ◌∷◌, ◌++◌, length, ◌^◌};
-ghost use Rattle.fresh.specs.Places.{stretch, filled, somes, Follows};
+ghost use Rattle.std.specs.Prelude.{◌≡◌, ◌+◌, ◌-◌, ◌<◌, ◌≤◌, ◌⊎◌, List, [], ◌∷◌, ◌++◌, length, ◌^◌, cond};
+ghost use Rattle.fresh.specs.Places.{stretch, with_items, filled, somes, Follows};
 
 use crate::cells::{Base, Cells};
 use std::marker::Model;
@@ -161,5 +161,29 @@ impl<T> Run<T> {
     {
         self.cells.write(self.base, self.first + self.written, item);
         self.written += 1;
+    }
+
+    /// Takes back the last item, whose place is empty then.
+    pub fn pop(&mut self) -> T
+        requires { 0 < length self.old.items }
+        ensures last { self.old.items ≡ self.new.items ++ result ∷ [] }
+        ensures others { self.new ≡ stretch self.old.block self.old.first self.new.items (self.old.room + 1) }
+    {
+        self.written -= 1;
+        self.cells.read(self.base, self.first + self.written)
+    }
+}
+
+impl<T: Copy> Run<T> {
+    /// Writes the next place and, unless the item is `kept`, takes it back: the memory is written either way, so that the
+    /// processor has no branch to guess.
+    pub fn push_if(&mut self, item: T, kept: bool)
+        requires { 0 < self.old.room }
+        ensures { self.new ≡ with_items self.old (cond kept (item ∷ []) []) }
+    {
+        self.push(item);
+        if !kept {
+            self.pop();
+        }
     }
 }

@@ -12,7 +12,7 @@ use crate::run::Run;
 use std::mem::size_of;
 
 /// How many bytes an item of this type takes.
-fn item_bytes<T>() -> usize
+pub(crate) fn item_bytes<T>() -> usize
     ensures { result ≡ capped (type_size T.row) }
 {
     size_of::<T>()

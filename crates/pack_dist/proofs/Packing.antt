@@ -1,12 +1,17 @@
 -- What a pack keeps of the first elements, of one more, and of those that a run is made of.
-use Rattle.pack_dist.proofs.Cited.{◌≡◌, ℕ, zero, suc, ◌+◌, ◌<◌, ◌≤◌, Bool, true, false, cond, List, [], ◌∷◌, ◌++◌, length, take, drop, get_or, set, refl, sym, ap, ◌∙◌, arith, append-nil}
-use Rattle.pack_dist.proofs.Cited.{append_assoc, drop-take, drop_more, length-append, length-take, take-take, take_more_set, take-set, sum_by-take-drop, sum_by_more, count_of, part, count-cons}
+use Rattle.pack_dist.proofs.Cited.{◌≡◌, ℕ, zero, suc, ◌+◌, ◌-◌, ◌<◌, ◌≤◌, Bool, true, false, cond, List, [], ◌∷◌, ◌++◌, length, take, drop, get_or, set, refl, sym, ap, ◌∙◌, arith, append-nil}
+use Rattle.pack_dist.proofs.Cited.{append_assoc, drop-take, drop_more, length-append, length-take, take-take, take_more_set, take-set, sum_by-take-drop, sum_by_more, count_of, part, stretch}
+use Rattle.pack_dist.proofs.Cited.{Stretch, with_items, count-cons}
 use Rattle.std.proofs.Math.Seq.{drop-append_seam, take-append_seam}
 use Rattle.pack_dist.specs.Kept.{kept_of}
 
 -- the true flags in front, and the others
 pub count-split : (flags : List Bool) (n : ℕ) → count_of (take n flags) + count_of (drop n flags) ≡ count_of flags
 count-split flags n = sum_by-take-drop (λ (f : Bool). cond f 1 0) flags n
+
+-- one more flag is counted
+pub counted : (flags : List Bool) (k count more : ℕ) → k < length flags → count ≡ count_of (take k flags) → more ≡ cond (get_or flags k false) 1 0 → count + more ≡ count_of (take (k + 1) flags)
+counted flags k count more lt is one = omega (arith, is, one, sum_by_more (λ (f : Bool). cond f 1 0) flags k false lt)
 
 module _ {X : Type 0} where
   kept-none : (xs : List X) → kept_of xs [] ≡ []
@@ -39,6 +44,23 @@ module _ {X : Type 0} where
       ∙ (λ i. kept_of (take-take k (k + 1) xs (omega arith) i) (take-take k (k + 1) flags (omega arith) i)
       ++ kept_of ((drop-take k 1 xs ∙ ap (take 1) (drop_more xs k d (omega (arith, long)))) i) ((drop-take k 1 flags ∙ ap (take 1) (drop_more flags k false within)) i))
       ∙ ap (λ kept. kept_of (take k xs) (take k flags) ++ kept) (kept_one (get_or xs k d) (get_or flags k false))
+
+  one_long : (flag : Bool) (x : X) → length (cond flag (x ∷ []) []) ≡ cond flag 1 0
+  one_long true x = refl
+  one_long false x = refl
+
+  -- a run after one more element, which is kept if its flag is true
+  pub pushed_if : (old now next : Stretch X) (xs : List X) (flags : List Bool) (k : ℕ) (x : X) → length xs ≡ length flags → k < length flags → x ≡ get_or xs k x
+      → now ≡ stretch old.block old.first (old.items ++ kept_of (take k xs) (take k flags)) (old.room - count_of (take k flags))
+      → next ≡ with_items now (cond (get_or flags k false) (x ∷ []) [])
+      → next ≡ stretch old.block old.first (old.items ++ kept_of (take (k + 1) xs) (take (k + 1) flags)) (old.room - count_of (take (k + 1) flags))
+  pushed_if old now next xs flags k x long within is_x before after =
+      let flag = get_or flags k false in let one = cond flag (x ∷ []) [] in let count = count_of (take k flags) in
+      let more : kept_of (take k xs) (take k flags) ++ one ≡ kept_of (take (k + 1) xs) (take (k + 1) flags) =
+      (λ i. kept_of (take k xs) (take k flags) ++ cond flag (is_x i ∷ []) []) ∙ sym (kept_more xs flags k x long within) in
+      let items = append_assoc old.items (kept_of (take k xs) (take k flags)) one ∙ ap (λ ys. old.items ++ ys) more in
+      let left : old.room - count - length one ≡ old.room - count_of (take (k + 1) flags) = omega (arith, one_long flag x, counted flags k count (cond flag 1 0) within refl refl) in
+      after ∙ ap (λ s. with_items s one) before ∙ λ i. stretch old.block old.first (items i) (left i)
 
   -- ---- the loop that stores each element at the number of true flags before it
 
@@ -86,10 +108,6 @@ module _ {X : Type 0} where
         ∙ take-append_seam kept others)
 
 -- ---- blocks
-
--- one more flag is counted
-pub counted : (flags : List Bool) (k count more : ℕ) → k < length flags → count ≡ count_of (take k flags) → more ≡ cond (get_or flags k false) 1 0 → count + more ≡ count_of (take (k + 1) flags)
-counted flags k count more lt is one = omega (arith, is, one, sum_by_more (λ (f : Bool). cond f 1 0) flags k false lt)
 
 -- what a run holds and what is left to be pushed, before a block and after it
 pub block_more : {X : Type 0} (xs : List X) (flags : List Bool) (n : ℕ) (before after : List X) → after ≡ before ++ kept_of (take n xs) (take n flags)

@@ -1,6 +1,6 @@
 -- The step of an arithmetic progression, and its parts.
-use Rattle.pack_dist.proofs.Cited.{◌≡◌, ◌∙◌, ℕ, zero, suc, ◌+◌, ◌^◌, ◌<◌, ◌≤◌, ℤ, pos, ◌+ℤ◌, ◌*ℤ◌, to_z, w32, [], ◌∷◌, ◌++◌, map, take, drop, add-one, sym, ap, arith, range_with_len}
-use Rattle.pack_dist.proofs.Cited.{int_wrap-add_left, to_z_pos, map-range_with_len_more, take-map-range_with_len, wrap, part}
+use Rattle.pack_dist.proofs.Cited.{◌≡◌, ◌∙◌, ℕ, zero, suc, ◌+◌, ◌^◌, ◌<◌, ◌≤◌, ℤ, pos, ◌+ℤ◌, ◌*ℤ◌, to_z, w32, [], ◌∷◌, ◌++◌, map, length, take, drop, add-one, sym, ap, arith, range_with_len}
+use Rattle.pack_dist.proofs.Cited.{int_wrap-add_left, to_z_pos, length-map-range_with_len, map-range_with_len_more, take-map-range_with_len, wrap, part}
 use Rattle.std.proofs.Math.IntN.{+ℤ_assoc, +ℤ_comm, suc_ℤ-*ℤ}
 use Rattle.pack_dist.specs.Progressions.{numbers_from, progression}
 
@@ -45,3 +45,10 @@ pub progression-part : (init stride : ℤ) (n from count : ℕ) → from + count
 progression-part init stride n from count within =
     let same : 0 + from ≡ from = omega arith in
     range-part (λ j. wrap (init +ℤ pos j *ℤ stride)) 0 n from count within ∙ ap (λ k. numbers_from init stride k count) same
+
+-- the first of the numbers from one place on
+pub numbers-long : (init stride : ℤ) (from n : ℕ) → length (numbers_from init stride from n) ≡ n
+numbers-long init stride from n = length-map-range_with_len (λ j. wrap (init +ℤ pos j *ℤ stride)) from n
+
+pub first_numbers : (init stride : ℤ) (from n count : ℕ) → count ≤ n → take count (numbers_from init stride from n) ≡ numbers_from init stride from count
+first_numbers init stride from n count within = take-map-range_with_len (λ j. wrap (init +ℤ pos j *ℤ stride)) from n count within

@@ -142,6 +142,6 @@ impl<'a, T: Copy, A: Allocator> Segments for SegmentCopies<'a, T, A> {
             (run.items ++ part (slice_index_or (copies_of self.now.values.now self.now.d.now) s []) from count)
             (run.room - count) }
     {
-        run.push_copies(self.values[s], count)
+        run.push_few_copies(self.values[s], count)
     }
 }

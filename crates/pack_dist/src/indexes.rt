@@ -16,7 +16,7 @@ use crate::checks::length_for;
 use crate::writes::{write_room, write_vector};
 use cvl_base::limits::{MOST_ELEMENTS, MOST_PLACES};
 use cvl_base::{Config, Fault, Memory, Refused, check_agree};
-use fresh::{Run, Writer};
+use fresh::{FEW, Run, Writer};
 use segdes::{EndToEnd, SegDes, Segments};
 use std::alloc::{AllocError, Allocator};
 use std::thread::Threads;
@@ -181,7 +181,7 @@ impl<'a, A: Allocator> Segments for SegmentProgressions<'a, A> {
             ++ part (slice_index_or (progressions_of self.now.inits.now self.now.strides.now self.now.d.now) s []) from count)
             (run.room - count) }
     {
-        push_progression(run, &self.inits[s], &self.strides[s], from, count)
+        push_few_numbers(run, &self.inits[s], &self.strides[s], from, count)
     }
 }
 
@@ -206,4 +206,16 @@ fn push_progression(
         next = next.wrapping_add(step);
     }
     run
+}
+
+/// The same for numbers that are often few: [`FEW`] are written at once, and those that are too many are taken back.
+fn push_few_numbers(run: Run<i32>, init: &i32, stride: &i32, from: usize, count: usize) -> Run<i32>
+    requires few { from < 2 ^ 31 }
+    requires room { count ≤ run.room }
+    ensures { result ≡ stretch run.block run.first (run.items ++ numbers_from init.now stride.now from count) (run.room - count) }
+{
+    if !run.takes_few(count) {
+        return push_progression(run, init, stride, from, count);
+    }
+    push_progression(run, init, stride, from, FEW).without_last(FEW - count)
 }

@@ -8,7 +8,7 @@ ghost use Rattle.range_walks.specs.Ends.{AreEnds};
 
 /// Counts at each place how many of the segments with these lengths end before it and behind the place before. There must be a
 /// place for each of their elements, and one more for the end of the last. Nothing may be counted before.
-pub(crate) fn count_ends(lengths: &[i32], ends: &mut [u8])
+pub fn count_ends(lengths: &[i32], ends: &mut [u8])
     requires lengths { AreLengthsWithin most_places lengths.now }
     requires few { length lengths.now < 2 ^ 8 }
     requires room { sum (map unsigned_abs lengths.now) < length ends.old }

@@ -7,7 +7,7 @@
 //! vectors are above, in the crate `scan_walks`.
 #![tactic(auto)]
 
-mod ends;
+pub mod ends;
 pub mod plain;
 pub mod range_parts;
 pub mod ranges;

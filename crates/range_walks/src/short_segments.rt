@@ -7,14 +7,14 @@ ghost use Rattle.cvl_base.specs.Descriptors.{AreLengthsWithin};
 ghost use Rattle.cvl_base.specs.Limits.{most_places};
 
 /// How many segments are walked at once.
-pub(crate) const GROUP: usize = 128;
+pub const GROUP: usize = 128;
 
 /// How many elements they have at most; more are walked segment by segment.
-pub(crate) const GROUP_ELEMENTS: usize = 1024;
+pub const GROUP_ELEMENTS: usize = 1024;
 
 /// The most bytes of an item for which many sums are kept at once. No monoid of this library has larger items, so the compiler
 /// leaves the test out.
-pub(crate) const LARGEST: usize = 16;
+pub const LARGEST: usize = 16;
 
 /// Fewer segments than this are walked one by one, since many at once take some preparation.
 const FEW: usize = 8;
@@ -47,7 +47,7 @@ pub fn are_short_and_uneven(lengths: &[i32], elements: usize) -> bool
 }
 
 /// How many elements the segments with these lengths have together.
-pub(crate) fn total_of(lengths: &[i32]) -> usize
+pub fn total_of(lengths: &[i32]) -> usize
     requires { AreLengthsWithin most_places lengths.now }
     ensures { result ≡ sum (map unsigned_abs lengths.now) }
 {

@@ -30,7 +30,7 @@ pub use Rattle.cvl_base.specs.declared.fault.FaultNo.TheVariants.{Overflow}
 pub use Rattle.fresh.proofs.Written.{all_written}
 pub use Rattle.operators.proofs.FoldLaws.{length-scan_of, scan_of-append, scan_of-cons, scan_of_more}
 pub use Rattle.operators.specs.NumberLaws.{fits-is_number, is_number-fits, number_words}
-pub use Rattle.range_walks.proofs.Segments.{cut_more, length-scans_of, length_here, one_long, one_scanned, range_left, range_lengths, range_read, read_at, scans_parted}
+pub use Rattle.range_walks.proofs.Segments.{cut_more, length-scans_of, length_here, one_long, one_scanned, range_left, range_lengths, range_read, read_at, scans_left, scans_parted}
 pub use Rattle.range_walks.specs.Ranges.{continued, range_scan_of, reduces_of, scans_of, with_starts}
 pub use Rattle.scan_walks.specs.Fronts.{fitting_front}
 pub use Rattle.segdes.specs.Starts.{start_of}

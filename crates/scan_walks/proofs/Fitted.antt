@@ -45,7 +45,7 @@ wrapped_after before (x ∷ xs) = cc (scan_of-cons sum_of (wrap before) x xs, in
 wrapped_scan : (xs : List ℤ) → scan_of sum_of (pos 0) xs ≡ map wrap (scan_of ◌+ℤ◌ (pos 0) xs)
 wrapped_scan xs = ap (λ z. scan_of sum_of z xs) (sym zero_wrapped) ∙ wrapped_after (pos 0) xs
 
-wrapped_scans : (lengths : List ℕ) (xs : List ℤ) → scans_of sum_of (pos 0) lengths xs ≡ map wrap (scans_of ◌+ℤ◌ (pos 0) lengths xs)
+pub wrapped_scans : (lengths : List ℕ) (xs : List ℤ) → scans_of sum_of (pos 0) lengths xs ≡ map wrap (scans_of ◌+ℤ◌ (pos 0) lengths xs)
 wrapped_scans [] xs = refl
 wrapped_scans (n ∷ ls) xs = search (rules, wrapped_scan, map-append, wrapped_scans ls (drop n xs))
 

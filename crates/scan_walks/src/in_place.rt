@@ -1,8 +1,9 @@
 //! Scans in place, on the calling thread: each overwrites the vector that it scans. They take no memory.
 
-ghost use Rattle.std.specs.Prelude.{◌≡◌, ◌≤◌, IsTrue, length, sum};
+ghost use Rattle.std.specs.Prelude.{◌≡◌, ◌≤◌, IsTrue, length, map, sum, unsigned_abs};
 ghost use Rattle.std.specs.List.{AllPass};
 ghost use Rattle.cvl_base.specs.CheckedSums.{checked_scan_of, checked_seg_scan_of};
+ghost use Rattle.cvl_base.specs.Descriptors.{AreLengthsWithin};
 ghost use Rattle.cvl_base.specs.Folds.{scan_of};
 ghost use Rattle.cvl_base.specs.Limits.{most_places};
 ghost use Rattle.cvl_base.specs.Rooms.{Overwrites};
@@ -11,9 +12,11 @@ ghost use Rattle.range_walks.specs.Ranges.{scans_of};
 
 use crate::checked::{check_scan, check_seg_scan};
 use crate::numbers::know_numbers;
+use crate::short_in_place::scans_in_groups;
 use cvl_base::monoid::know_laws;
 use cvl_base::monoids::Add;
 use cvl_base::{Fault, Monoid};
+use range_walks::are_short_and_uneven;
 use segdes::SegLengths;
 
 /// Writes the exclusive scan over the vector: each element becomes `before`, joined from left to right with the elements that
@@ -36,19 +39,33 @@ pub fn scan_in<M: Monoid>(before: M::Item, a: &mut [M::Item])
     }
 }
 
-/// Writes the exclusive scans of the segments over the vector, which has as many elements.
-fn scans_in<M: Monoid>(a: &mut [M::Item], d: &SegLengths)
-    requires total { sum d.now ≡ length a.old }
+/// Writes the exclusive scans of the segments with these lengths over the vector, by a loop for each segment.
+pub(crate) fn scans_in_turn<M: Monoid>(a: &mut [M::Item], lengths: &[i32])
+    requires lengths { AreLengthsWithin most_places lengths.now }
+    requires total { sum (map unsigned_abs lengths.now) ≡ length a.old }
     requires items { AllPass M.is_item a.old }
-    ensures { a.new ≡ scans_of M.join M.unit d.now a.old }
+    ensures { a.new ≡ scans_of M.join M.unit (map unsigned_abs lengths.now) a.old }
 {
     know_laws::<M>();
     let mut start = 0;
-    for s in 0..d.count() {
-        let end = start + d.length(s);
+    for length in lengths {
+        let end = start + *length as usize;
         scan_in::<M>(M::unit(), &mut a[start..end]);
         start = end;
     }
+}
+
+/// The same, many segments at once if they are short and uneven.
+fn scans_in<M: Monoid>(a: &mut [M::Item], lengths: &[i32])
+    requires lengths { AreLengthsWithin most_places lengths.now }
+    requires total { sum (map unsigned_abs lengths.now) ≡ length a.old }
+    requires items { AllPass M.is_item a.old }
+    ensures { a.new ≡ scans_of M.join M.unit (map unsigned_abs lengths.now) a.old }
+{
+    if are_short_and_uneven(lengths, a.len()) {
+        return scans_in_groups::<M>(a, lengths);
+    }
+    scans_in_turn::<M>(a, lengths)
 }
 
 /// Writes the exclusive scan of each segment over the vector. `LengthMismatch`, without a place, if the segments' total is not
@@ -60,7 +77,7 @@ pub fn seg_scan_in<M: Monoid>(a: &mut [M::Item], d: &SegLengths) -> Result<(), F
     ensures { Overwrites (seg_scan_of M.join M.unit a.old d.now) result a.old a.new }
 {
     d.check_total(a)?;
-    scans_in::<M>(a, d);
+    scans_in::<M>(a, d.lengths());
     Ok(())
 }
 

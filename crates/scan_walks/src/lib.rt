@@ -13,6 +13,7 @@ pub mod in_place;
 pub mod numbers;
 pub mod scans_over;
 mod segment_fronts;
+mod short_in_place;
 pub mod vectors;
 pub mod whole_sums;
 

@@ -203,9 +203,40 @@ def turned(lengths):
     )
 
 
+# lengths of segments whose copies and numbers are written eight at a time: if they are no more, and eight places are left
+
+COPIED = [[3] * 50, [1] * 100, [0, 1, 8, 9, 2, 7, 0, 0, 16, 5] * 7, [8] * 20, [*range(10), *range(9, -1, -1)], [9, 9], [2]]
+COPIES = "f = grt_wuz v o\np = dis_vez v d\nwrite p d\np = dis_veb f d\nwrite p d\np = ind_lez v l d\nwrite p d\n"
+
+# flags of elements that a pack puts right into its result, as many as it has places left, and the last ones by a buffer of 256
+
+FLAGGED = {
+    "all": "f = geq_wuz a z\n",
+    "every second": "b = and_wuz a o\nf = eql_wuz b z\n",
+    "the first 300": "o = dis_vuz 300 {0}\nf = les_wuz a o\n",
+    "those from the one numbered 700 on": "o = dis_vuz 700 {0}\nf = geq_wuz a o\n",
+}
+LIMITS = (255, 256, 257, 1030)
+
+
+def packs(settings):
+    text = ""
+    for kept, flags in FLAGGED.items():
+        for count in LIMITS:
+            script = f"a = ind_luz 0 1 {count}\nz = dis_vuz 0 {count}\no = dis_vuz 1 {count}\nv = ind_luz 7 3 {count}\n"
+            text += whole(
+                f"a pack of {kept} of {count}", settings, script + flags.format(count) + "p = pck_luz v f\nwrite p\n", []
+            )
+    return text
+
+
 def walks(rng):
     text = ""
     settings = tiles(("3", "3"), ("4096", "1"))
+    for number, lengths in enumerate(COPIED):
+        script = f"l = input 1\nd = mke_fov l\nv = ind_luz -7 3 {len(lengths)}\no = dis_vuz 100 {len(lengths)}\n"
+        text += whole(f"copies and numbers of short segments, {number}", settings, script + COPIES, [number_lines(lengths)])
+    text += packs(settings)
     count = sum(SUMMED)
     script = f"l = input 1\na = ind_luz 12345 {STRIDE} {count}\nz = dis_vuz 0 {count}\n" + REDUCED
     text += whole("reduces of short segments", settings, script, [number_lines(SUMMED)])

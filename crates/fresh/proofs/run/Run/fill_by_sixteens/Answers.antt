@@ -1,4 +1,4 @@
-use Rattle.fresh.proofs.Cited.{◌+◌, ◌≤◌, arith}
+use Rattle.fresh.proofs.Cited.{arith}
 use Rattle.fresh.proofs.InTurn.{written_after, written_all}
 use Rattle.fresh.proofs.run.Run.fill_by_sixteens.Goals as goal
 

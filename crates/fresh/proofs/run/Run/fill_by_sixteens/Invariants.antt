@@ -1,4 +1,4 @@
-use Rattle.fresh.proofs.Cited.{◌≡◌, ◌+◌, ◌-◌, ◌≤◌, List, with_items, GoWith}
+use Rattle.fresh.proofs.Cited.{◌≡◌, ◌+◌, List, with_items, GoWith}
 use Rattle.fresh.proofs.run.Run.fill_by_sixteens.Given as goal
 
 abbrev pub invariant-loop-left : goal.invariant-loop-left

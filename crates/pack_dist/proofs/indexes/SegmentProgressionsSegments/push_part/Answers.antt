@@ -16,8 +16,8 @@ offset_bounds-self-s-2 g c = let self = c.args.self.now in omega (arith, in-step
 pub bounds-self-s-2 : goal.bounds-self-s-2
 bounds-self-s-2 g c = let self = c.args.self.now in omega (arith, in-steps self.inits.now self.strides.now self.d.now self.one_each c.args.s c.requires.segment)
 
-pub push_progression-requires-clause-few : goal.push_progression-requires-clause-few
-push_progression-requires-clause-few g c =
+pub push_few_numbers-requires-clause-few : goal.push_few_numbers-requires-clause-few
+push_few_numbers-requires-clause-few g c =
     let self = c.args.self.now in let steps = zip self.inits.now self.strides.now in
     omega (arith, list-within (numbers 0) steps self.d.now self.one_each c.args.s c.requires.segment (pos 0, pos 0) (c.args.from + c.args.count) c.requires.within, self.few)
 
@@ -30,6 +30,6 @@ returns g c =
     let step : get_or steps s (pos 0, pos 0) ≡ (init, stride) =
     get_or-zip inits strides s (pos 0, pos 0) both.0 both.1 in
     let within = (list-within (numbers 0) steps d self.one_each s c.requires.segment (pos 0, pos 0) (c.args.from + c.args.count) c.requires.within).0 in
-    c.push_progression.ensures ∙ ap (λ ys. stretch run.block run.first (run.items ++ ys) (run.room - c.args.count))
+    c.push_few_numbers.ensures ∙ ap (λ ys. stretch run.block run.first (run.items ++ ys) (run.room - c.args.count))
     (sym (ap (λ ys. part ys c.args.from c.args.count) (list-at (numbers 0) steps d self.one_each s c.requires.segment (pos 0, pos 0)
     ∙ ap (λ p. progression p.0 p.1 (get_or d s 0)) step) ∙ progression-part init stride (get_or d s 0) c.args.from c.args.count within))
