@@ -1,6 +1,6 @@
 //! Bytes widened to integers.
 
-ghost use Rattle.std.specs.Prelude.{◌≡◌, Ok, length, map, pos};
+ghost use Rattle.std.specs.Prelude.{◌≡◌, Ok, length};
 ghost use Rattle.byte_numbers.specs.Bytes.{ints_from_bytes};
 ghost use Rattle.cvl_base.specs.Rooms.{Overwrites, in_room};
 

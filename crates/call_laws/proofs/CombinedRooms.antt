@@ -1,13 +1,15 @@
 -- Combining permutes and counts by blocks, each joined in a room of its own.
-use Rattle.call_laws.proofs.Cited.{◌≡◌, ◌∙◌, ◌↔◌, ◌+◌, ◌≤◌, ◌++◌, ◌∷◌, ℕ, zero, suc, Bool, IsTrue, ℤ, pos, List, [], append_assoc, append-nil, length, length-append, length-map, map, map-append}
-use Rattle.call_laws.proofs.Cited.{All, AllPass, All-head, All-tail, ap, arith, cond, count_by, enumerate_from, fault_at, FaultNo, filter, filter-append, first_fault, fold-append, fold_from}
-use Rattle.call_laws.proofs.Cited.{fold_of, fold_of_is_item, ints, joined, length-enumerate_from, MonoidLaws, most_places, None, none-some, Option, refl, replicate, rules, Some, subst}
+use Rattle.call_laws.proofs.Cited.{◌≡◌, ◌∙◌, ◌↔◌, ◌+◌, ◌≤◌, ◌++◌, ◌∷◌, ℕ, zero, suc, Bool, IsTrue, ℤ, pos, List, [], append_assoc, append-nil, length, length-append, map, map-append}
+use Rattle.call_laws.proofs.Cited.{All, AllPass, All-head, All-tail, ap, arith, cond, count_by, fault_at, FaultNo, filter, filter-append, first_fault, fold-append, fold_from}
+use Rattle.call_laws.proofs.Cited.{fold_of, fold_of_is_item, ints, joined, MonoidLaws, most_places, None, none-some, Option, refl, replicate, rules, Some, subst}
 use Rattle.call_laws.proofs.Cited.{sum_by-append, sym, w32, ◌+ℤ◌}
 use Rattle.std.proofs.lemmas.Int.{int_wrap_fits}
 use Rattle.std.proofs.lemmas.List.Elements.{All-cons, All-filter, All-map, All-nil}
 use Rattle.std.proofs.lemmas.List.Sums.{count_by-le-length}
 use Rattle.cvl_base.specs.Integers.{sum_of}
 use Rattle.combining_permutes.specs.CombiningPermutes.{combined, names, place_counts, sent_there}
+use Rattle.combining_permutes.proofs.Joined.{combined_none}
+use Rattle.combining_permutes.proofs.BySegments.{length-combined}
 use Rattle.permute_walks.specs.Indices.{first_outside, outside}
 use Rattle.call_laws.specs.InRooms.{own_room, with_room, with_rooms}
 
@@ -24,14 +26,6 @@ module _ {X : Type 0} (join : X → X → X) where
   combined_both xs ys lowest (y ∷ before) =
       let here = ap (fold_of join y) (sent_both xs ys lowest) ∙ fold-append join y (sent_there xs lowest) (sent_there ys lowest) in
       (λ t. here t ∷ combined_both xs ys (lowest + 1) before t)
-
-  combined_none : (lowest : ℕ) (before : List X) → combined join [] lowest before ≡ before
-  combined_none lowest [] = refl
-  combined_none lowest (y ∷ before) = ap (λ zs. y ∷ zs) (combined_none (lowest + 1) before)
-
-  length-combined : (xs : List (ℤ × X)) (lowest : ℕ) (before : List X) → length (combined join xs lowest before) ≡ length before
-  length-combined xs lowest before =
-      length-map (enumerate_from lowest before) (λ p. fold_of join p.1 (sent_there xs p.0)) ∙ length-enumerate_from lowest before
 
 -- ---- a block, joined in a room of its own
 

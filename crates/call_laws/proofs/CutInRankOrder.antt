@@ -1,33 +1,18 @@
 -- Where a rank cuts its sorted keys, from counts alone.
-use Rattle.std.proofs.Common.{◌≡◌, ◌∙◌, ℕ, ◌+◌, ◌-◌, ◌<◌, ◌≤◌, ◌&&◌, ◌||◌, not, ℤ, pos, Bool, true, false, cond, List, [], ◌∷◌, ◌++◌, ap, arith, count_by, get_or, length, refl, sym}
+use Rattle.std.proofs.Common.{◌≡◌, ◌∙◌, ℕ, ◌+◌, ◌-◌, ◌<◌, ◌≤◌, ℤ, pos, cond, List, [], ◌∷◌, ◌++◌, ap, arith, count_by, get_or, length, sym}
 use Rattle.std.proofs.Common.{take, ltb, lt-ltb, le-ltb, suc, ◌⊎◌, inl, inr}
 use Rattle.std.specs.Prelude.{int_lt, min}
 use Rattle.std.specs.List.{enumerate_from}
-use Rattle.std.specs.Ordering.{int_eq, is_eq}
-use Rattle.std.specs.declared.cmp.Ordering.TheVariants.{Less, Equal, Greater}
+use Rattle.std.specs.Ordering.{int_eq}
 use Rattle.std.proofs.lemmas.Bool.{cases_lt}
 use Rattle.std.proofs.lemmas.List.{take-append-le, take_all}
 use Rattle.std.proofs.lemmas.List.Sums.{sum_by-append, sum_by-cons, sum_by-take-le}
 use Rattle.std.proofs.Math.Seq.{take-append-add}
 use Rattle.orders.specs.Orders.{by_key}
-use Rattle.orders.proofs.Ranks.{int_order, rank_at_order}
+use Rattle.orders.proofs.Ranks.{earlier_none, int_order, lesser_or_equal, rank_at_order}
 use Rattle.call_laws.specs.SortedOverRanks.{cut_in_rank_order, equal_keys, goes_before, lesser_keys}
 
 -- ---- before a place go the lesser keys, and the equal ones of earlier places
-
-at_place : (x k : ℤ) (c : Bool) → c ≡ true → cond (int_lt x k || (not (int_lt k x) && c)) 1 0 ≡ cond (int_lt x k) 1 0 + cond (int_eq x k) 1 0
-at_place x k c earlier = cases (int_lt x k) (int_lt k x) where
-  cases : (a b : Bool) → cond (a || (not b && c)) 1 0 ≡ cond a 1 0 + cond (is_eq (cond a Less (cond b Greater Equal))) 1 0
-  cases true b = refl
-  cases false true = refl
-  cases false false = ap (λ d. cond d 1 0) earlier
-
-behind_place : (x k : ℤ) (c : Bool) → c ≡ false → cond (int_lt x k || (not (int_lt k x) && c)) 1 0 ≡ cond (int_lt x k) 1 0 + 0
-behind_place x k c later = cases (int_lt x k) (int_lt k x) where
-  cases : (a b : Bool) → cond (a || (not b && c)) 1 0 ≡ cond a 1 0 + 0
-  cases true b = refl
-  cases false true = refl
-  cases false false = ap (λ d. cond d 1 0) later
 
 before_place : (p : ℕ) (k : ℤ) (keys : List ℤ) (m : ℕ) → count_by (goes_before (p, k)) (enumerate_from m keys) ≡ lesser_keys k keys + equal_keys k (take (p - m) keys)
 before_place p k [] m = let none : equal_keys k (take (p - m) []) ≡ 0 = ap (equal_keys k) (take_all (p - m) [] (omega arith)) in omega (arith, none)
@@ -41,13 +26,14 @@ before_place p k (key ∷ keys) m = at (cases_lt m p) (before_place p k keys (m 
   at : (m < p) ⊎ (p ≤ m) → count_by (goes_before (p, k)) (enumerate_from (m + 1) keys) ≡ lesser_keys k keys + equal_keys k (take (p - (m + 1)) keys)
       → count_by (goes_before (p, k)) (enumerate_from m (key ∷ keys)) ≡ lesser_keys k (key ∷ keys) + equal_keys k (take (p - m) (key ∷ keys))
   at (inl below) on =
-      let one : cond (goes_before (p, k) (m, key)) 1 0 ≡ cond (int_lt key k) 1 0 + cond (int_eq key k) 1 0 = at_place key k (ltb m p) (lt-ltb m p below) in
+      let one : cond (goes_before (p, k) (m, key)) 1 0 ≡ cond (int_lt key k) 1 0 + cond (int_eq key k) 1 0 = lesser_or_equal key k (ltb m p) (lt-ltb m p below) in
       let taken : p - m ≡ suc (p - (m + 1)) = omega (arith, below) in
       let equal : equal_keys k (take (p - m) (key ∷ keys)) ≡ cond (int_eq key k) 1 0 + equal_keys k (take (p - (m + 1)) keys) =
       ap (λ n. equal_keys k (take n (key ∷ keys))) taken ∙ sum_by-cons (λ x. cond (int_eq x k) 1 0) key (take (p - (m + 1)) keys) in
       omega (arith, counts, one, lesser, equal, on)
   at (inr over) on =
-      let one : cond (goes_before (p, k) (m, key)) 1 0 ≡ cond (int_lt key k) 1 0 + 0 = behind_place key k (ltb m p) (le-ltb m p over) in
+      let one : ◌≡◌ {A = ℕ} (cond (goes_before (p, k) (m, key)) 1 0) (cond (int_lt key k) 1 0) =
+      ap (λ b. cond b 1 0) (earlier_none (int_lt key k) (int_lt k key) (ltb m p) (le-ltb m p over)) in
       let none : p - m ≡ 0 = omega (arith, over) in
       let more : p - (m + 1) ≡ 0 = omega (arith, over) in
       let equal : equal_keys k (take (p - m) (key ∷ keys)) ≡ 0 = ap (λ n. equal_keys k (take n (key ∷ keys))) none in

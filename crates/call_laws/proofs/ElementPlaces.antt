@@ -16,10 +16,10 @@ extract-meaning xs k x = (from-Some (slice_get xs k) (fault_at no.IndexOutOfRang
 
 -- ---- replace
 
-get-set_same : {X : Type 0} (xs : List X) (k : ℕ) (x : X) → k < length xs → slice_get (slice_set xs k x) k ≡ Some x
+pub get-set_same : {X : Type 0} (xs : List X) (k : ℕ) (x : X) → k < length xs → slice_get (slice_set xs k x) k ≡ Some x
 get-set_same xs k x within = slice_get_read (slice_set xs k x) (length xs) k x (sym (length-set xs k x)) within (sym (get_or-set_same xs k x x within))
 
-get-set_other : {X : Type 0} (xs : List X) (k : ℕ) (x : X) (j : ℕ) → j ≢ k → slice_get (slice_set xs k x) j ≡ slice_get xs j
+pub get-set_other : {X : Type 0} (xs : List X) (k : ℕ) (x : X) (j : ℕ) → j ≢ k → slice_get (slice_set xs k x) j ≡ slice_get xs j
 get-set_other [] k x j other = refl
 get-set_other (y ∷ xs) zero x zero other = absurd (other refl)
 get-set_other (y ∷ xs) zero x (suc j) other = refl

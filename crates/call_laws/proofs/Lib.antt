@@ -1,4 +1,4 @@
-mod Cuts
+pub mod Cuts
 pub mod BackPermutes
 pub mod ByRanges
 pub mod Carries

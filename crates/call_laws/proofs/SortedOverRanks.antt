@@ -1,6 +1,6 @@
 -- Sorts of vectors whose keys lie on ranks.
 use Rattle.std.proofs.Common.{◌≡◌, ◌∙◌, ℕ, ◌+◌, ◌<◌, ◌&&◌, ◌||◌, not, ℤ, pos, Bool, true, false, cond, List, [], ◌∷◌, ◌++◌, ap, arith, count_by, drop, get_or, length, map, refl, subst, sym}
-use Rattle.std.proofs.Common.{take, ltb, lt-ltb, ltb-true, length-take-le, take-append-drop, suc, append-nil}
+use Rattle.std.proofs.Common.{take, ltb, lt-ltb, length-take-le, take-append-drop, suc, append-nil}
 use Rattle.std.specs.Prelude.{int_lt}
 use Rattle.std.specs.Cmp.{IsStrictWeakOrder}
 use Rattle.std.specs.List.{AllByRecursion, enumerate_from, filter}
@@ -9,8 +9,9 @@ use Rattle.std.proofs.lemmas.List.Sums.{count_by-le-length, sum_by-cons}
 use Rattle.operators.specs.Lists.{joined}
 use Rattle.orders.specs.Orders.{by_key, has_lesser_key, sorted_of}
 use Rattle.orders.specs.StableSorts.{inserted, stably_sorted}
-use Rattle.orders.proofs.Insertion.{map-stably_sorted, NoneLess, Rises, Rises-stably_sorted}
+use Rattle.orders.proofs.Insertion.{map-stably_sorted, NoneLess, Rises, Rises-stably_sorted, further}
 use Rattle.orders.proofs.Ranks.{Climbs, Climbs-sorted, count_before, int_order, is_before, length-by_key, not_greater}
+use Rattle.orders.proofs.TheOrder.{before_by_place, map-keys}
 use Rattle.call_laws.specs.SortedOverRanks.{cut_at, exchanged_at, from_on, goes_before, sorted_over_ranks, up_to, with_places}
 
 -- ---- the sort of sorted lists, one after another
@@ -73,10 +74,6 @@ module _ {X : Type 0} (less : X → X → Bool) (order : IsStrictWeakOrder less)
   first x [] none = refl
   first x (z ∷ zs) none = ap (λ b. cond b (z ∷ inserted less x zs) (x ∷ z ∷ zs)) none.0
 
-  further : (x y : X) (zs : List X) → less y x ≡ false → NoneLess less y zs → NoneLess less x zs
-  further x y [] above none = tt
-  further x y (z ∷ zs) above none = (order.chain z y x none.0 above, further x y zs above none.1)
-
   kept-inserted : (x : X) (ys : List X) → Rises less ys → filter test (inserted less x ys) ≡ cond (test x) (inserted less x (filter test ys)) (filter test ys)
   kept-inserted x [] rises = refl
   kept-inserted x (y ∷ ys) rises = cases (less y x) refl (kept-inserted x ys rises.1) where
@@ -93,7 +90,7 @@ module _ {X : Type 0} (less : X → X → Bool) (order : IsStrictWeakOrder less)
     cases true is on = lesser (test x) (test y) is on
     cases false isnt on =
         ap (λ us. cond (test x) us (filter test (y ∷ ys)))
-        (sym (first x (filter test (y ∷ ys)) (All-kept (λ z. less z x ≡ false) test (y ∷ ys) (isnt, further x y ys isnt rises.0))))
+        (sym (first x (filter test (y ∷ ys)) (All-kept (λ z. less z x ≡ false) test (y ∷ ys) (isnt, further less order x y ys isnt rises.0))))
 
   kept-sorted : (xs : List X) → filter test (stably_sorted less xs) ≡ stably_sorted less (filter test xs)
   kept-sorted [] = refl
@@ -114,15 +111,6 @@ module _ {X : Type 0} (less : X → X → Bool) (order : IsStrictWeakOrder less)
 
 pairs_order : IsStrictWeakOrder has_lesser_key
 pairs_order = record { one_way = λ p q is. int_order.one_way p.1 q.1 is; chain = λ p q s a b. int_order.chain p.1 q.1 s.1 a b }
-
-before_by_place : (p q : ℕ × ℤ) → is_before int_lt p q ≡ true → int_lt p.1 q.1 ≡ false → p.0 < q.0
-before_by_place p q is isnt = at (ltb p.0 q.0) refl where
-  at : (b : Bool) → ltb p.0 q.0 ≡ b → p.0 < q.0
-  at true e = ltb-true p.0 q.0 e
-  at false e = absurd (let other : is_before int_lt p q ≡ false = (λ i. isnt i || (none (not (int_lt q.1 p.1)) i)) in cc) where
-    none : (c : Bool) → (c && ltb p.0 q.0) ≡ false
-    none true = e
-    none false = refl
 
 before_chain : (p q s : ℕ × ℤ) → is_before int_lt p q ≡ true → is_before int_lt q s ≡ true → is_before int_lt p s ≡ true
 before_chain p q s first second = at (int_lt p.1 s.1) refl where
@@ -288,9 +276,5 @@ cuts-exactly keys n below =
     (count_by-le-length (goes_before (get_or (by_key keys) n (0, pos 0))) (by_key keys))
     ∙ count_before int_lt int_order (by_key keys) n (0, pos 0) (omega (arith, length-by_key keys int_order, below)) (Climbs-sorted int_lt int_order 0 keys)
 
-keys-of : (n : ℕ) (keys : List ℤ) → map (λ (p : ℕ × ℤ). p.1) (enumerate_from n keys) ≡ keys
-keys-of n [] = refl
-keys-of n (key ∷ keys) = ap (λ ks. key ∷ ks) (keys-of (n + 1) keys)
-
 pub keys-sorted : (keys : List ℤ) → map (λ (p : ℕ × ℤ). p.1) (by_key keys) ≡ sorted_of keys
-keys-sorted keys = map-stably_sorted (λ (p : ℕ × ℤ). p.1) int_lt (enumerate_from 0 keys) ∙ ap (stably_sorted int_lt) (keys-of 0 keys)
+keys-sorted keys = map-stably_sorted (λ (p : ℕ × ℤ). p.1) int_lt (enumerate_from 0 keys) ∙ ap (stably_sorted int_lt) (map-keys 0 keys)

@@ -1,7 +1,7 @@
 //! Laws of segmented calls on vectors whose elements lie on ranks, cut anywhere and any number of times, each a function that
 //! takes and gives nothing and whose contract is the law.
 
-ghost use Rattle.std.specs.Prelude.{◌≡◌, List, [], length, map, Result};
+ghost use Rattle.std.specs.Prelude.{◌≡◌, List, [], length, map};
 ghost use Rattle.std.specs.List.{AllPass};
 ghost use Rattle.call_laws.specs.OverRanks.{elements_of, reduces_over_ranks, scans_over_ranks, together};
 ghost use Rattle.cvl_base.specs.SegmentedCalls.{seg_reduce_of, seg_scan_of};

@@ -1,5 +1,5 @@
 -- A list of numbers is no nested text.
-use Rattle.std.proofs.Common.{◌≡◌, ℕ, ◌+◌, ◌≤◌, suc, Bool, true, false, List, [], ◌∷◌, ◌++◌, length, map, filter, refl, ap, sym, subst, ◌∙◌, arith, Option, Some, None, ℤ, Ok, Err, Result}
+use Rattle.std.proofs.Common.{◌≡◌, ℕ, ◌+◌, ◌≤◌, Bool, true, false, List, [], ◌∷◌, ◌++◌, length, map, filter, refl, ap, sym, subst, ◌∙◌, arith, Option, Some, None, ℤ, Ok, Err, Result}
 use Rattle.std.specs.Prelude.{◌==◌, ◌&&◌, ◌||◌, not, nat_lt, count_by, if◌then◌else◌}
 use Rattle.std.specs.Char.{is_ascii_digit}
 use Rattle.std.specs.List.{concat, list_all}
@@ -8,12 +8,12 @@ use Rattle.std.specs.Str.Parse.{digits_value}
 use Rattle.std.proofs.lemmas.Bool.Decides.{nat_tests}
 use Rattle.cvl_base.specs.declared.fault.FaultNo.TheVariants.{BadInput, TooLong}
 use Rattle.std.proofs.lemmas.List.{length-map}
+use Rattle.std.proofs.lemmas.Bool.{and_from, and_parts}
 use Rattle.cvl_base.specs.declared.fault.Fault.{Fault}
 use Rattle.cvl_base.specs.Elementwise.{values_from}
 use Rattle.cvl_base.specs.Faults.{fault, fault_at}
 use Rattle.cvl_base.specs.Gives.{◌>>=◌, fault_if}
 use Rattle.cvl_base.specs.Limits.{most_elements}
-use Rattle.line_reader.specs.declared.token.ByteClass.{ByteClass}
 use Rattle.line_reader.specs.declared.token.ByteClass.TheVariants.{Blank, Alone, InToken}
 use Rattle.line_reader.specs.Tokens.{tokens_by, with_byte, is_in_token, is_blank, begins_in_token}
 use Rattle.line_reader.specs.Numbers.{is_empty, magnitude_of, negative_of, positive_of, with_sign, written_number}
@@ -29,19 +29,11 @@ is_bracket b = (b == 91) || (b == 93)
 no_digit : (b : ℕ) → is_ascii_digit b ≡ true → not (is_bracket b) ≡ true
 no_digit b e = grind (arith, nat_tests)
 
-both : (a b : Bool) → (a && b) ≡ true → (a ≡ true) × (b ≡ true)
-both true true e = (refl, refl)
-both true false e = absurd (cc)
-both false b e = absurd (cc)
-
-both_true : (a b : Bool) → a ≡ true → b ≡ true → (a && b) ≡ true
-both_true a b e f = rw (e, f) refl
-
 no_digits : (ds : List ℕ) → list_all is_ascii_digit ds ≡ true → list_all (λ b. not (is_bracket b)) ds ≡ true
 no_digits [] e = refl
 no_digits (d ∷ ds) e =
-    let parts = both (is_ascii_digit d) (list_all is_ascii_digit ds) e in
-    both_true (not (is_bracket d)) (list_all (λ b. not (is_bracket b)) ds) (no_digit d parts.0) (no_digits ds parts.1)
+    let parts = and_parts (is_ascii_digit d) (list_all is_ascii_digit ds) e in
+    and_from (not (is_bracket d)) (list_all (λ b. not (is_bracket b)) ds) (no_digit d parts.0) (no_digits ds parts.1)
 
 -- the digits of a magnitude
 digits_of : (ds : List ℕ) (m : ℕ) → magnitude_of ds ≡ Some m → list_all is_ascii_digit ds ≡ true
@@ -64,7 +56,7 @@ no_brackets (b ∷ bs) n e = by_case (b == 45) refl e
     by_case : (sign : Bool) → (b == 45) ≡ sign → with_sign sign (b ∷ bs) bs ≡ Some n → list_all (λ b. not (is_bracket b)) (b ∷ bs) ≡ true
     by_case true is e =
         let some = from_some (magnitude_of bs) negative_of n e in
-        both_true (not (is_bracket b)) (list_all (λ b. not (is_bracket b)) bs) (grind (arith, nat_tests)) (no_digits bs (digits_of bs some.0 some.1))
+        and_from (not (is_bracket b)) (list_all (λ b. not (is_bracket b)) bs) (grind (arith, nat_tests)) (no_digits bs (digits_of bs some.0 some.1))
     by_case false is e =
         let some = from_some (magnitude_of (b ∷ bs)) positive_of n e in
         no_digits (b ∷ bs) (digits_of (b ∷ bs) some.0 some.1)
@@ -72,7 +64,7 @@ no_brackets (b ∷ bs) n e = by_case (b == 45) refl e
 all_both : (p : ℕ → Bool) (xs ys : List ℕ) → list_all p xs ≡ true → list_all p ys ≡ true → list_all p (xs ++ ys) ≡ true
 all_both p [] ys e f = f
 all_both p (x ∷ xs) ys e f =
-    let parts = both (p x) (list_all p xs) e in both_true (p x) (list_all p (xs ++ ys)) parts.0 (all_both p xs ys parts.1 f)
+    let parts = and_parts (p x) (list_all p xs) e in and_from (p x) (list_all p (xs ++ ys)) parts.0 (all_both p xs ys parts.1 f)
 
 from_value : {X Y : Type 0} (r : Result X Fault) (next : X → Result Y Fault) (y : Y) → (r >>= next) ≡ Ok y → (x : X) × (r ≡ Ok x) × (next x ≡ Ok y)
 from_value (Ok x) next y p = (x, refl, p)
@@ -116,7 +108,7 @@ same_at b bs e = by_case (is_white_space b) refl e
         → (nested_class b ≡ input_class b) × (list_all (λ b. not (is_bracket b)) others ≡ true)
     by_case true is e = (rw is refl, e)
     by_case false is e =
-        let parts = both (not (is_bracket b)) (list_all (λ b. not (is_bracket b)) others) e in
+        let parts = and_parts (not (is_bracket b)) (list_all (λ b. not (is_bracket b)) others) e in
         (rw is (not_alone (is_bracket b) parts.0), parts.1)
 
 begins_alike : (bytes : List ℕ) → list_all (λ b. not (is_bracket b)) (filter (λ b. not (is_blank (input_class b))) bytes) ≡ true

@@ -1,5 +1,5 @@
 -- The fault of counts whose rooms do not lie in the memory.
-use Rattle.std.proofs.Common.{◌≡◌, ◌∙◌, ℕ, ℤ, pos, Bool, false, not, List, length, replicate, ap, Ok, Err}
+use Rattle.std.proofs.Common.{◌≡◌, ◌∙◌, ℕ, ℤ, pos, false, not, List, length, replicate, ap, Ok, Err}
 use Rattle.std.proofs.lemmas.List.{length-replicate}
 use Rattle.cvl_base.specs.declared.fault.FaultNo.TheVariants.{LengthMismatch}
 use Rattle.cvl_base.specs.Faults.{fault}

@@ -2,7 +2,7 @@
 
 ghost use Rattle.std.specs.Prelude.{◌≡◌, ◌+ℤ◌, ◌*◌, ◌<◌, ◌≤◌, Err, Ok, length, map, pos, replicate, MatchResult};
 ghost use Rattle.std.specs.List.{AllPass, range_with_len};
-ghost use Rattle.combine_parts.specs.OwnRooms.{MakesOwn, may_own, own_counts_of, own_room_of, own_rooms_of, padded};
+ghost use Rattle.combine_parts.specs.OwnRooms.{MakesOwn, may_own, own_counts_of, own_room_of, own_rooms_of};
 ghost use Rattle.combining_permutes.specs.CombiningPermutes.{combine_of};
 ghost use Rattle.cvl_base.specs.declared.fault.FaultNo.TheVariants as no;
 ghost use Rattle.cvl_base.specs.Faults.{fault};

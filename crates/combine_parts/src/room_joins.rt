@@ -1,6 +1,6 @@
 //! The rooms of all parts, joined to a share of a call's room.
 
-ghost use Rattle.std.specs.Prelude.{◌≡◌, ◌+◌, ◌≤◌, Ok, length, map, true, false, nat_le, MatchResult};
+ghost use Rattle.std.specs.Prelude.{◌≡◌, ◌+◌, Ok, length, true, false, nat_le, MatchResult};
 ghost use Rattle.combine_parts.specs.RoomJoins.{joined_counts_of, joined_share_of, lie_within, shares_of, starts_of};
 ghost use Rattle.combine_parts.specs.RoomJoins.{with_room, with_rooms};
 ghost use Rattle.cvl_base.specs.declared.fault.FaultNo.TheVariants as no;

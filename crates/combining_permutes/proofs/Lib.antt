@@ -1,7 +1,7 @@
-mod Joined
+pub mod Joined
 mod Named
 mod Ones
-mod BySegments
+pub mod BySegments
 mod Meaning
 mod Owned
 pub mod Cited

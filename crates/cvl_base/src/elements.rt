@@ -1,6 +1,6 @@
 //! Vectors of elements within the limit.
 
-ghost use Rattle.std.specs.Prelude.{◌≡◌, ◌≤◌, ◌==◌, List, length, vec_len};
+ghost use Rattle.std.specs.Prelude.{◌≡◌, ◌≤◌, ◌==◌, length, vec_len};
 ghost use Rattle.cvl_base.specs.Limits.{most_elements};
 
 use std::alloc::Allocator;

@@ -1,6 +1,6 @@
 //! The lengths of a descriptor.
 
-ghost use Rattle.std.specs.Prelude.{◌≡◌, ℕ, ◌≤◌, pos, map, sum, unsigned_abs, List, length};
+ghost use Rattle.std.specs.Prelude.{◌≡◌, ◌≤◌, pos, map, sum, unsigned_abs, length};
 ghost use Rattle.cvl_base.specs.Limits.{most_elements};
 ghost use Rattle.cvl_base.specs.Descriptors.{AreLengths};
 

@@ -1,6 +1,6 @@
 //! Words and names of a script.
 
-ghost use Rattle.std.specs.Prelude.{◌≡◌, ℕ, ◌≤◌, List, length, Some, IsTrue, SomeIff, nat_eq, refl};
+ghost use Rattle.std.specs.Prelude.{◌≡◌, Some, IsTrue, SomeIff, nat_eq, refl};
 ghost use Rattle.std.specs.List.{list_all};
 ghost use Rattle.std.specs.Ordering.{nat_cmp};
 ghost use Rattle.std.specs.Cmp.{on_equiv, on_total, on_po, on_per, partial_equiv_from_equiv};
@@ -53,7 +53,7 @@ pub struct Name {
 }
 
 impl Model for Name {
-    ghost use Rattle.std.specs.Prelude.{◌≡◌, ℕ, ◌-◌, ◌≤◌, List, length, take, IsTrue};
+    ghost use Rattle.std.specs.Prelude.{◌≡◌, ℕ, ◌≤◌, List, length, take, IsTrue};
     ghost use Rattle.cvl_base.specs.Limits.{most_word_bytes};
     ghost use Rattle.cvl_base.specs.Words.{is_name};
     ghost use Rattle.cvl_base.specs.NameBytes.{padded};

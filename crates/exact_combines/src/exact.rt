@@ -2,7 +2,6 @@
 
 ghost use Rattle.std.specs.Prelude.{◌+ℤ◌, ◌≤◌, length};
 ghost use Rattle.std.specs.List.{AllPass};
-ghost use Rattle.cvl_base.specs.ItemWords.{is_number};
 ghost use Rattle.cvl_base.specs.Limits.{most_places};
 ghost use Rattle.cvl_base.specs.Rooms.{Overwrites};
 ghost use Rattle.combining_permutes.specs.CombiningPermutes.{combine_of, seg_combine_of};

@@ -1,6 +1,6 @@
 //! Why a token may not stand where something else is wanted.
 
-ghost use Rattle.std.specs.Prelude.{◌≡◌, take};
+ghost use Rattle.std.specs.Prelude.{◌≡◌};
 ghost use Rattle.std.specs.List.{list_all, list_any};
 ghost use Rattle.cvl_base.specs.Words.{is_word_byte};
 ghost use Rattle.explained_calls.specs.Reasons.{call_reason, is_marked, is_punctuation, is_reserved};

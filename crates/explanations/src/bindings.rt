@@ -1,6 +1,6 @@
 //! The names that the lines of a script bind.
 
-ghost use Rattle.std.specs.Prelude.{◌≡◌, ◌++◌, Some, Ok, IfOk, OnOk, slice_get, option_copied};
+ghost use Rattle.std.specs.Prelude.{◌≡◌, ◌++◌, Some, Ok, IfOk, OnOk, option_copied};
 ghost use Rattle.line_reader.specs.Lines.{call_of};
 ghost use Rattle.explanations.specs.Bindings.{bound_before, bound_by_call, input_asked, last_binding, line_at, literal};
 

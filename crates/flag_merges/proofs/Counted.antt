@@ -1,6 +1,6 @@
 -- The counts of flags, whether they fit two vectors, and what a merge then gives.
 use Rattle.std.proofs.Common.{◌≡◌, ◌≢◌, ◌∙◌, ℕ, suc, ◌+◌, ◌&&◌, Bool, true, false, cond, not, List, [], ◌∷◌, ◌++◌, length, map, refl, ap, arith, eq-eqb, eqb, Ok, Err}
-use Rattle.std.proofs.lemmas.Bool.{eqb-true, ne_eqb}
+use Rattle.std.proofs.lemmas.Bool.{and_parts, eqb-true, ne_eqb}
 use Rattle.std.proofs.lemmas.List.{map-append}
 use Rattle.std.proofs.lemmas.List.Sums.{sum_by-append}
 use Rattle.cvl_base.specs.declared.fault.Fault.{Fault}
@@ -8,10 +8,6 @@ use Rattle.cvl_base.specs.Gives.{fault_if}
 use Rattle.cvl_base.specs.Packs.{count_of}
 use Rattle.cvl_base.proofs.Packs.{count-cons}
 use Rattle.flag_merges.specs.Merges.{are_counts, merge_or, merged}
-
-both_true : (x y : Bool) → (x && y) ≡ true → (x ≡ true) × (y ≡ true)
-both_true true y is = (refl, is)
-both_true false y is = absurd (cc)
 
 one_of_both : (flag : Bool) → cond flag 1 0 + cond (not flag) 1 0 ≡ 1
 one_of_both true = refl
@@ -36,10 +32,10 @@ module _ (flags : List Bool) (trues falses : ℕ) where
   others_false t f = λ i. eq-eqb (count_of flags) trues t i && ne_eqb (count_of (map not flags)) falses f i
 
   pub trues_fit : are_counts flags trues falses ≡ true → count_of flags ≡ trues
-  trues_fit is = eqb-true (count_of flags) trues (both_true (eqb (count_of flags) trues) (eqb (count_of (map not flags)) falses) is).0
+  trues_fit is = eqb-true (count_of flags) trues (and_parts (eqb (count_of flags) trues) (eqb (count_of (map not flags)) falses) is).0
 
   pub falses_fit : are_counts flags trues falses ≡ true → count_of (map not flags) ≡ falses
-  falses_fit is = eqb-true (count_of (map not flags)) falses (both_true (eqb (count_of flags) trues) (eqb (count_of (map not flags)) falses) is).1
+  falses_fit is = eqb-true (count_of (map not flags)) falses (and_parts (eqb (count_of flags) trues) (eqb (count_of (map not flags)) falses) is).1
 
 module _ {X : Type 0} (f : Fault) (flags : List Bool) (xs ys : List X) where
   pub merge_right : are_counts flags (length xs) (length ys) ≡ true → merge_or f flags xs ys ≡ Ok (merged flags xs ys)

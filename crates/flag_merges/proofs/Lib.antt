@@ -1,4 +1,4 @@
-mod BySegments
-mod Counted
+pub mod BySegments
+pub mod Counted
 mod Merged
 mod Packed

@@ -1,6 +1,6 @@
 -- How the seats of a board are dealt out, and what one pass has that gathers several: for the passes of any board, and for a least board's.
 -- Source: what the definitions of Joined imply.
-use Rattle.least_boards.proofs.Cited.{◌≡◌, refl, sym, ap, ◌∙◌, subst, ℕ, ◌+◌, ◌-◌, ◌≤◌, cond, List, [], ◌∷◌, ◌++◌, length, replicate, arith, length-append, length_push, replicate_more}
+use Rattle.least_boards.proofs.Cited.{◌≡◌, refl, sym, ap, ◌∙◌, subst, ℕ, ◌+◌, ◌-◌, cond, List, [], ◌∷◌, ◌++◌, length, replicate, arith, length-append, length_push, replicate_more}
 use Rattle.least_boards.proofs.Cited.{sum_by_push, sum_by, State, Hand, hands_joined, times}
 use Rattle.atomic_table.specs.Seated.{TableId}
 use Rattle.status_word.proofs.Dealt.{times-append}

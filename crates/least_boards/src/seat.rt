@@ -1,7 +1,5 @@
 //! A worker's seat at any board.
 
-ghost use Rattle.std.specs.Prelude.{◌≡◌};
-
 use crate::least_pass::LeastPass;
 use atomic_table::Seat;
 use status_word::Pass;

@@ -1,6 +1,6 @@
 -- A fold of integers of 32 bits onto a sum that may grow is the same in 64 bits as over whole numbers.
 -- Source: what the definitions of LongSums and Folds imply.
-use Rattle.std.proofs.Common.{◌≡◌, ◌∙◌, ◌+◌, ◌-◌, ◌*◌, ◌^◌, ◌≤◌, refl, ap, arith, ℕ, zero, suc, List, [], ◌∷◌, length, IsTrue, true}
+use Rattle.std.proofs.Common.{◌≡◌, ◌∙◌, ◌-◌, ◌*◌, ◌^◌, ◌≤◌, refl, ap, arith, ℕ, zero, suc, List, [], ◌∷◌, length, IsTrue, true}
 use Rattle.std.proofs.Common.{ℤ, pos, negsuc, ◌+ℤ◌, ◌-ℤ◌, ◌≤ℤ◌, FitsSigned}
 use Rattle.std.specs.Int.{w64}
 use Rattle.std.specs.List.{fold, AllPass}
@@ -10,7 +10,7 @@ use Rattle.std.proofs.lemmas.List.Elements.{All-head, All-tail}
 use Rattle.cvl_base.specs.ItemWords.{is_number}
 use Rattle.cvl_base.specs.Limits.{most_places}
 use Rattle.operators.specs.NumberLaws.{fits-is_number}
-use Rattle.long_sums.specs.LongSums.{is_long, long_sum_of, may_grow}
+use Rattle.long_sums.specs.LongSums.{long_sum_of, may_grow}
 
 -- n integers of 32 bits that are added to z do not leave 64 bits
 record MayTake (n : ℕ) (z : ℤ) : Type 0 where

@@ -1,6 +1,6 @@
 -- The laws of sums in 64 bits.
 -- Source: what the definitions of LongSums and Monoid imply.
-use Rattle.std.proofs.Common.{◌≡◌, refl, sym, ap, ◌∙◌, ◌^◌, IsTrue, ℤ, pos, negsuc, ◌+ℤ◌, FitsSigned, arith}
+use Rattle.std.proofs.Common.{refl, sym, ap, ◌∙◌, ◌^◌, IsTrue, ℤ, pos, negsuc, ◌+ℤ◌, FitsSigned, arith}
 use Rattle.std.specs.Int.{w64, int_wrap}
 use Rattle.std.proofs.lemmas.Bool.{ltb-true, lt-ltb}
 use Rattle.std.proofs.lemmas.Int.{ints, int_wrap_fits, int_wrap-add_left, int_wrap-add_right, SFits-int_wrap}

@@ -5,7 +5,7 @@ use Rattle.std.specs.Prelude.{if◌then◌else◌}
 use Rattle.std.specs.List.{list_all, position_or_len}
 use Rattle.std.proofs.Math.ListN.{length-set}
 use Rattle.std.proofs.Math.Nat.{mul-le-mul_left}
-use Rattle.std.proofs.lemmas.Bool.{cases_lt}
+use Rattle.std.proofs.lemmas.Bool.{cases_lt, not-false, not-true}
 use Rattle.std.proofs.lemmas.List.{at_drop_more, get_or-drop, get_or-take}
 use Rattle.std.proofs.lemmas.List.Edits.{fill_by_more}
 use Rattle.std.proofs.lemmas.List.FromFn.{fill_by_all, get_or-map-range_with_len, length-map-range_with_len}
@@ -24,14 +24,6 @@ classed : (white : Bool) → is_in_token (if white then Blank else InToken) ≡ 
 classed true = refl
 classed false = refl
 
-not_true : (b : Bool) → not b ≡ true → b ≡ false
-not_true true is = absurd cc
-not_true false is = refl
-
-not_false : (b : Bool) → not b ≡ false → b ≡ true
-not_false true is = refl
-not_false false is = absurd cc
-
 in_token : (b : ℕ) → is_in_token (input_class b) ≡ not (is_white_space b)
 in_token b = classed (is_white_space b)
 
@@ -40,10 +32,10 @@ pub run_is : (bytes : List ℕ) (run : ℕ) → run ≤ length bytes → IsTrue 
     → begins_in_token input_class (drop run bytes) ≡ false → run ≡ position_or_len is_white_space bytes
 run_is bytes run within all longest =
     sym (position_or_len_is is_white_space bytes run 0 within
-    (λ k before. not_true (is_white_space (get_or bytes k 0))
+    (λ k before. not-true (is_white_space (get_or bytes k 0))
     (sym (in_token (get_or bytes k 0)) ∙ ap (λ b. is_in_token (input_class b)) (sym (get_or-take run bytes k 0 before))
     ∙ AllPass-from_list_all (λ b. is_in_token (input_class b)) (take run bytes) all k 0 (omega (arith, before, within, length-take run bytes))))
-    (λ inside. not_false (is_white_space (get_or bytes run 0))
+    (λ inside. not-false (is_white_space (get_or bytes run 0))
     (sym (in_token (get_or bytes run 0)) ∙ sym (at_drop_more (begins_in_token input_class) bytes run 0 inside) ∙ longest)))
 
 -- ---- even places

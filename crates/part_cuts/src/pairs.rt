@@ -1,7 +1,7 @@
 //! Where each part begins in a vector, by where it begins in two others.
 
-ghost use Rattle.std.specs.Prelude.{◌≡◌, ◌+◌, ◌-◌, ◌<◌, ◌^◌, ℕ, Bool, length, nat_lt, not, true};
-ghost use Rattle.std.specs.List.{AllPass, list_all, zip};
+ghost use Rattle.std.specs.Prelude.{◌≡◌, ◌+◌, ◌-◌, ◌^◌, ℕ, Bool, length, nat_lt, not, true};
+ghost use Rattle.std.specs.List.{list_all, zip};
 ghost use Rattle.cvl_base.specs.Rooms.{Overwrites, in_room};
 ghost use Rattle.part_cuts.specs.Pairs.{added_places_of, are_places, paired_places_of, places_of_pairs, remaining_places_of};
 

@@ -3,7 +3,7 @@
 ghost use Rattle.std.specs.Prelude.{◌≡◌, ◌+◌, ◌≤◌, [], length};
 ghost use Rattle.fresh.specs.Parts.{part};
 ghost use Rattle.fresh.specs.Places.{stretch};
-ghost use Rattle.permute_walks.specs.Before.{values_of, written_of};
+ghost use Rattle.permute_walks.specs.Before.{values_of};
 
 use fresh::{Copies, Run, Writer};
 

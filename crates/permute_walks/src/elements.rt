@@ -3,8 +3,7 @@
 ghost use Rattle.std.specs.Prelude.{◌≡◌, ◌+◌, ◌≤◌, [], length, slice_get, unwrap_or};
 ghost use Rattle.fresh.specs.Parts.{part};
 ghost use Rattle.fresh.specs.Places.{stretch};
-ghost use Rattle.permute_walks.specs.Before.{values_of, written_of};
-ghost use Rattle.permute_walks.specs.Senders.{written_over};
+ghost use Rattle.permute_walks.specs.Before.{values_of};
 
 use crate::before::Before;
 use fresh::{Run, Writer};

@@ -1,7 +1,7 @@
 //! A back permute in one walk, which several threads may share: each checks indices and writes their elements at once. An index
 //! that is no place of the source takes another element, so that every place is written, and the first such index is reported.
 
-ghost use Rattle.std.specs.Prelude.{◌≡◌, ◌+◌, ◌≤◌, IfOk, List, [], None, Option, length, map, vec_len};
+ghost use Rattle.std.specs.Prelude.{◌≡◌, ◌+◌, ◌≤◌, IfOk, List, None, Option, length, map, vec_len};
 ghost use Rattle.std.specs.List.{All};
 ghost use Rattle.cvl_base.specs.declared.fault.FaultNo.TheVariants.{IndexOutOfRange};
 ghost use Rattle.cvl_base.specs.Elementwise.{values_from};
@@ -12,7 +12,6 @@ ghost use Rattle.fresh.specs.Found.{first_without};
 ghost use Rattle.fresh.specs.Parts.{part};
 ghost use Rattle.fresh.specs.Places.{stretch, with_items};
 ghost use Rattle.permute_walks.specs.Indices.{each_or};
-ghost use Rattle.sharing.specs.Shares.{share_of_first};
 
 use crate::backs::write_elements_at;
 use crate::elements::element_of;

@@ -47,20 +47,16 @@ mapped-two f n (Err e) b = refl
 mapped-two f n (Ok xs) (Err e) = refl
 mapped-two f n (Ok xs) (Ok ys) = ap Ok (map-append f xs ys)
 
+-- rows whose lengths fit the columns and the values
+rows_nest : (x columns values : List ℤ) (lengths : List ℕ) → sum lengths ≡ length columns → length values ≡ length columns
+    → rows_within (length x) lengths columns values ≡ unless (first_outside 0 (length x) columns) (Ok (cut_of lengths (zip columns values)))
+rows_nest x columns values lengths fit as_many =
+    ap (unless (first_outside 0 (length x) columns))
+    (if_as_long-fits values columns (nest lengths (zip columns values)) as_many
+    ∙ nest-fits lengths (zip columns values) (omega (arith, fit, as_many, length-zip columns values)))
+
 module _ (x columns more values others : List ℤ) (lengths later : List ℕ) (fit : sum lengths ≡ length columns) (as_many : length values ≡ length columns)
     (also_fit : sum later ≡ length more) (also_as_many : length others ≡ length more) where
-  one : rows_within (length x) lengths columns values ≡ unless (first_outside 0 (length x) columns) (Ok (cut_of lengths (zip columns values)))
-  one =
-      ap (unless (first_outside 0 (length x) columns))
-      (if_as_long-fits values columns (nest lengths (zip columns values)) as_many
-      ∙ nest-fits lengths (zip columns values) (omega (arith, fit, as_many, length-zip columns values)))
-
-  other : rows_within (length x) later more others ≡ unless (first_outside 0 (length x) more) (Ok (cut_of later (zip more others)))
-  other =
-      ap (unless (first_outside 0 (length x) more))
-      (if_as_long-fits others more (nest later (zip more others)) also_as_many
-      ∙ nest-fits later (zip more others) (omega (arith, also_fit, also_as_many, length-zip more others)))
-
   both_nested : if_as_long (values ++ others) (columns ++ more) (nest (lengths ++ later) (zip (columns ++ more) (values ++ others)))
       ≡ Ok (cut_of lengths (zip columns values) ++ cut_of later (zip more others))
   both_nested =
@@ -76,7 +72,7 @@ module _ (x columns more values others : List ℤ) (lengths later : List ℕ) (f
       ap (unless (first_outside 0 (length x) (columns ++ more))) both_nested
       ∙ ap (λ ws. unless (first_fault 0 ws) (Ok (cut_of lengths (zip columns values) ++ cut_of later (zip more others)))) (map-append (outside (length x)) columns more)
       ∙ told-two (map (outside (length x)) columns) (map (outside (length x)) more) (cut_of lengths (zip columns values)) (cut_of later (zip more others))
-      ∙ (λ i. in_two (length-map columns (outside (length x)) i) (sym one i) (sym other i))
+      ∙ (λ i. in_two (length-map columns (outside (length x)) i) (sym (rows_nest x columns values lengths fit as_many) i) (sym (rows_nest x more others later also_fit also_as_many) i))
 
   pub product-two : rows_product (lengths ++ later) (columns ++ more) (values ++ others) x
       ≡ in_two (length columns) (rows_product lengths columns values x) (rows_product later more others x)

@@ -1,5 +1,5 @@
 -- The script of the sparse product binds `y` to the sparse product, of any inputs, or stops at its fault.
-use Rattle.std.proofs.Common.{◌≡◌, ◌≢◌, ℕ, List, length, map, pos, codes, ℤ, refl, sym, ap, ◌∙◌, inl, inr, Option, Some, None, Result, Ok, Err}
+use Rattle.std.proofs.Common.{◌≡◌, ℕ, List, length, map, pos, codes, ℤ, refl, sym, ap, ◌∙◌, inl, inr, Option, Some, None, Result, Ok, Err}
 use Rattle.std.specs.Prelude.{sum}
 use Rattle.std.specs.List.{zip}
 use Rattle.std.proofs.lemmas.Bool.Decides.{eqb_tells}
@@ -14,10 +14,8 @@ use Rattle.cvl_base.specs.declared.value.Value.{Value}
 use Rattle.cvl_base.specs.declared.value.Value.TheVariants as value
 use Rattle.cvl_base.specs.Descriptors.{descriptor_of}
 use Rattle.cvl_base.specs.Elementwise.{ints2_of}
-use Rattle.cvl_base.specs.Faults.{fault}
 use Rattle.cvl_base.specs.Gives.{◌>>=◌, Gives, unless}
 use Rattle.cvl_base.specs.Integers.{product_of, sum_of}
-use Rattle.cvl_base.specs.Nests.{cut_of}
 use Rattle.cvl_base.specs.Permutes.{back_of}
 use Rattle.cvl_base.specs.Segmented.{in_vector, results_from}
 use Rattle.cvl_base.specs.Folds.{fold_of}
@@ -31,8 +29,8 @@ use Rattle.sparse_products.specs.Products.{at_column, row_product}
 use Rattle.sparse_products.proofs.Answered.{are_rows, not_as_many, not_the_total, outside_first}
 use Rattle.vector_handles.specs.Names.{Entries, bind, value_at}
 use Rattle.recipes.specs.declared.scripts.TheConstants.{SPARSE_MATVEC}
-use Rattle.recipes.specs.Recipes.{GivesBound, as_bound, bound_by}
-use Rattle.recipes.proofs.Calls.{bound_before, goes_on}
+use Rattle.recipes.specs.Recipes.{as_bound, bound_by}
+use Rattle.recipes.proofs.Calls.{bound_before}
 use Rattle.recipes.proofs.ProductScript.{from_permute, from_product, from_sum, from_write, inputs, run, with_gathered, with_inputs, with_products, with_rows}
 use Rattle.recipes.proofs.RowProducts.{columns_there, length-terms, rows_summed, terms_made, wrapped_term}
 

@@ -22,7 +22,7 @@ module _ {X : Type 0} where
   begun_long true x runs = let one_more : suc (length runs) ≡ 1 + length runs = omega arith in one_more
   begun_long false x runs = let as_many : length (onto_first x runs) ≡ 0 + length runs = omega (arith, onto_long x runs) in as_many
 
-  begun_some : (b : Bool) (x : X) (runs : List (List X)) → 1 ≤ length runs → 1 ≤ length (begun b x runs)
+  pub begun_some : (b : Bool) (x : X) (runs : List (List X)) → 1 ≤ length runs → 1 ≤ length (begun b x runs)
   begun_some true x runs some = let more : 1 ≤ suc (length runs) = omega arith in more
   begun_some false x runs some = let more : 1 ≤ length (onto_first x runs) = omega (arith, some, onto_long x runs) in more
 

@@ -1,5 +1,5 @@
-mod Counted
-mod Fronts
-mod InSegments
+pub mod Counted
+pub mod Fronts
+pub mod InSegments
 mod Parted
 mod Walked

@@ -1,6 +1,7 @@
 -- What the runs of a list are.
 use Rattle.std.proofs.Common.{◌≡◌, ◌∙◌, ◌&&◌, Bool, true, false, not, List, [], ◌∷◌, refl, ap}
 use Rattle.std.specs.List.{list_all}
+use Rattle.std.proofs.lemmas.Bool.{and_from, and_parts}
 use Rattle.run_lengths.specs.Laws.{AreRuns, are_apart, is_run}
 use Rattle.run_lengths.specs.Runs.{onto_first, runs_from, runs_of}
 use Rattle.run_lengths.proofs.Counted.{begun, joined_runs}
@@ -14,18 +15,6 @@ module _ {X : Type 0} (differ : X → X → Bool) where
     each : list_all (is_run differ) ((x ∷ others) ∷ rest) ≡ true
     longest : are_apart differ ((x ∷ others) ∷ rest) ≡ true
 
-  both : (a b : Bool) → a ≡ true → b ≡ true → (a && b) ≡ true
-  both true b first second = second
-  both false b first second = absurd (cc)
-
-  first_of : (a b : Bool) → (a && b) ≡ true → a ≡ true
-  first_of true b is = refl
-  first_of false b is = absurd (cc)
-
-  second_of : (a b : Bool) → (a && b) ≡ true → b ≡ true
-  second_of true b is = is
-  second_of false b is = absurd (cc)
-
   -- a longer run parts from the next one where it did
   still_apart : (x y : X) (ys : List X) (rest : List (List X)) → are_apart differ ((y ∷ ys) ∷ rest) ≡ true → are_apart differ ((x ∷ y ∷ ys) ∷ rest) ≡ true
   still_apart x y ys [] is = refl
@@ -37,15 +26,15 @@ module _ {X : Type 0} (differ : X → X → Bool) where
     rest = (y ∷ of.others) ∷ of.rest;
     are = ap (λ rs. (x ∷ []) ∷ rs) of.are;
     each = of.each;
-    longest = both (differ x y) (are_apart differ ((y ∷ of.others) ∷ of.rest)) is of.longest;
+    longest = and_from (differ x y) (are_apart differ ((y ∷ of.others) ∷ of.rest)) is of.longest;
   }
   more_by false x y runs is of = record {
     others = y ∷ of.others;
     rest = of.rest;
     are = ap (onto_first x) of.are;
-    each = both (not (differ x y) && is_run differ (y ∷ of.others)) (list_all (is_run differ) of.rest)
-        (both (not (differ x y)) (is_run differ (y ∷ of.others)) (ap not is) (first_of (is_run differ (y ∷ of.others)) (list_all (is_run differ) of.rest) of.each))
-        (second_of (is_run differ (y ∷ of.others)) (list_all (is_run differ) of.rest) of.each);
+    each = and_from (not (differ x y) && is_run differ (y ∷ of.others)) (list_all (is_run differ) of.rest)
+        (and_from (not (differ x y)) (is_run differ (y ∷ of.others)) (ap not is) (and_parts (is_run differ (y ∷ of.others)) (list_all (is_run differ) of.rest) of.each).0)
+        (and_parts (is_run differ (y ∷ of.others)) (list_all (is_run differ) of.rest) of.each).1;
     longest = still_apart x y of.others of.rest of.longest;
   }
 

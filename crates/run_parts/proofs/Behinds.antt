@@ -1,5 +1,5 @@
 -- What goes on behind each part: the step of a loop that writes it, from the last part on.
-use Rattle.std.proofs.Common.{◌≡◌, ◌+◌, ◌-◌, ◌<◌, ◌∙◌, ℕ, suc, Bool, true, false, List, [], ◌∷◌, length, drop, get_or, zip, refl, sym, ap, arith, if◌then◌else◌, set, nat_lt}
+use Rattle.std.proofs.Common.{◌≡◌, ◌+◌, ◌-◌, ◌<◌, ◌∙◌, ℕ, true, false, List, [], ◌∷◌, length, drop, get_or, zip, refl, sym, ap, arith, if◌then◌else◌, set, nat_lt}
 use Rattle.std.proofs.Math.ListN.{drop_of_length-le}
 use Rattle.std.proofs.lemmas.List.{drop-set, drop_more, length-drop}
 use Rattle.std.proofs.lemmas.Grind.{get_or_after_one}

@@ -2,11 +2,10 @@
 use Rattle.std.proofs.Common.{◌≡◌, ◌∙◌, ℕ, ◌+◌, ◌-◌, ◌<◌, ◌≤◌, min, Bool, List, [], ◌∷◌, ◌++◌, length, map, take, drop, get_or, set, ℤ, pos, refl, sym, ap, arith, append-nil, append_assoc}
 use Rattle.std.proofs.Common.{length-append}
 use Rattle.std.proofs.lemmas.List.{drop-drop, drop_all, drop_min, drop_more, length-drop, length-take-le, map-append, take_all, take_min, take_more_set}
-use Rattle.cvl_base.specs.Lists.{joined}
 use Rattle.cvl_base.specs.Nests.{cut_of}
 use Rattle.run_lengths.specs.Runs.{run_count_of, runs_in, runs_of}
+use Rattle.run_lengths.proofs.Counted.{most_runs}
 use Rattle.run_parts.specs.Runs.{lengths_of_runs}
-use Rattle.run_parts.proofs.Written.{length-lengths, most_runs}
 
 -- the elements from one place up to another
 abbrev pub segment_of : {X : Type 0} → ℕ → ℕ → List X → List X

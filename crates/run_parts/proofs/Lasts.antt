@@ -1,5 +1,5 @@
 -- The last of some values, joined with one more.
-use Rattle.std.proofs.Common.{◌≡◌, ◌∙◌, ◌-◌, ◌<◌, ℕ, suc, List, [], ◌∷◌, length, get_or, set, refl, sym, ap, arith}
+use Rattle.std.proofs.Common.{◌≡◌, ◌∙◌, ◌-◌, ◌<◌, ℕ, suc, List, [], ◌∷◌, length, get_or, set, ap, arith}
 use Rattle.segment_parts.specs.Reduces.{join_last}
 
 module _ {Item : Type 0} (join : Item → Item → Item) where
@@ -13,8 +13,3 @@ module _ {Item : Type 0} (join : Item → Item → Item) where
 
   pub last-set : (xs : List Item) (x more : Item) → 0 < length xs → set xs (length xs - 1) (join (get_or xs (length xs - 1) x) more) ≡ join_last join xs more
   last-set xs x more some = set-last xs (length xs - 1) x more (omega (arith, some))
-
-  pub length-join_last : (xs : List Item) (more : Item) → length (join_last join xs more) ≡ length xs
-  length-join_last [] more = refl
-  length-join_last (x ∷ []) more = refl
-  length-join_last (x ∷ y ∷ others) more = ap suc (length-join_last (y ∷ others) more)

@@ -1,8 +1,8 @@
 -- The runs that begin in a part, by its elements: what is left of its head, and the segments that start in it.
-use Rattle.std.proofs.Common.{◌≡◌, ◌∙◌, ℕ, ◌+◌, ◌-◌, ◌≤◌, ◌++◌, Bool, true, false, not, ◌||◌, Option, List, [], ◌∷◌, length, map, take, drop, sum, leb, nat_lt, ℤ, pos, Ok, refl, sym, ap}
+use Rattle.std.proofs.Common.{◌≡◌, ◌∙◌, ℕ, ◌+◌, ◌-◌, ◌≤◌, ◌++◌, Bool, true, not, ◌||◌, List, [], ◌∷◌, length, map, take, drop, sum, leb, ℤ, pos, Ok, refl, sym, ap}
 use Rattle.std.proofs.Common.{arith, append_assoc, length-append}
-use Rattle.std.proofs.lemmas.Bool.{and_parts, le-ltb, leb-true, ltb-false}
-use Rattle.std.proofs.lemmas.List.{append-nil, drop-drop, length-drop, map-append, take-append-drop}
+use Rattle.std.proofs.lemmas.Bool.{and_parts, le-ltb, leb-true}
+use Rattle.std.proofs.lemmas.List.{drop-drop, length-drop, map-append, take-append-drop}
 use Rattle.cvl_base.proofs.Lists.{sum-cons}
 use Rattle.cvl_base.specs.declared.fault.FaultNo.TheVariants as no
 use Rattle.cvl_base.specs.Faults.{fault}
@@ -10,10 +10,12 @@ use Rattle.cvl_base.specs.Gives.{fault_if}
 use Rattle.cvl_base.specs.Lists.{joined}
 use Rattle.cvl_base.specs.Nests.{cut_of}
 use Rattle.run_lengths.specs.Runs.{runs_in, runs_of}
+use Rattle.run_lengths.proofs.Counted.{joined_runs, most_runs}
+use Rattle.run_lengths.proofs.InSegments.{most_in}
 use Rattle.segment_parts.specs.Reduces.{but_last, is_part}
 use Rattle.run_parts.specs.Runs.{in_front_of, lengths_of_runs, part_runs_of, range_of, runs_behind, runs_in_part}
 use Rattle.run_parts.proofs.Ranges.{by-ends, first-range, length-range}
-use Rattle.run_parts.proofs.Written.{joined_runs, length-lengths, most_runs}
+use Rattle.run_parts.proofs.Written.{length-lengths}
 
 pub bounds : (head : ℕ) (lengths : List ℕ) (n : ℕ) → is_part head lengths n ≡ true → (head + sum (but_last lengths) ≤ n) × (n ≤ head + sum lengths)
 bounds head lengths n is =
@@ -33,18 +35,6 @@ module _ {X : Type 0} where
   joined-both (xs ∷ lists) more = ap (λ ys. xs ++ ys) (joined-both lists more) ∙ sym (append_assoc xs (joined lists) (joined more))
 
 module _ {X : Type 0} (differ : X → X → Bool) where
-  most_in : (lengths : List ℕ) (xs : List X) → length (runs_in differ (cut_of lengths xs)) ≤ length xs
-  most_in [] xs = omega arith
-  most_in (n ∷ lengths) xs =
-      omega (
-        arith,
-        length-append (runs_of differ (take n xs)) (runs_in differ (cut_of lengths (drop n xs))),
-        most_runs differ (take n xs),
-        most_in lengths (drop n xs),
-        ap length (take-append-drop n xs),
-        length-append (take n xs) (drop n xs),
-      )
-
   joined-runs_in : (segments : List (List X)) → joined (runs_in differ segments) ≡ joined segments
   joined-runs_in [] = refl
   joined-runs_in (segment ∷ segments) =
@@ -111,7 +101,7 @@ module _ {X : Type 0} (differ : X → X → Bool) where
 
       pub within : end ≤ n
       within =
-          omega (arith, mid_is, end_is, most_runs differ left_of_head, most_in lengths behind_head, long_left, long_behind, head_fits, some)
+          omega (arith, mid_is, end_is, most_runs differ left_of_head, most_in differ lengths behind_head, long_left, long_behind, head_fits, some)
 
       pub many : end ≡ length (lengths_of_runs part_runs)
       many =

@@ -1,7 +1,6 @@
 //! The items of a segment, of which eight are written at once if the segments are short and uneven.
 
-ghost use Rattle.std.specs.Prelude.{◌≡◌, ◌+◌, ◌++◌, ◌<◌, ◌≤◌, ◌^◌, length, map, take};
-ghost use Rattle.std.specs.List.{range_with_len};
+ghost use Rattle.std.specs.Prelude.{◌≡◌, ◌+◌};
 
 /// How many items are written at once. No branch depends on the length of a segment that has no more: what is written behind it
 /// the segments that follow write over.

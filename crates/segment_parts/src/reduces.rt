@@ -1,8 +1,7 @@
 //! The reduces of the segments that start in a part.
 
-ghost use Rattle.std.specs.Prelude.{◌≡◌, ◌≤◌, [], IsTrue, drop, length, map, sum};
+ghost use Rattle.std.specs.Prelude.{◌≡◌, ◌≤◌, [], IsTrue, length, map, sum};
 ghost use Rattle.std.specs.List.{AllPass};
-ghost use Rattle.cvl_base.specs.Limits.{most_places};
 ghost use Rattle.cvl_base.specs.Rooms.{Overwrites, in_room};
 ghost use Rattle.fresh.specs.Places.{with_items};
 ghost use Rattle.range_walks.specs.Ranges.{reduces_of};

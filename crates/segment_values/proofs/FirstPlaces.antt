@@ -1,12 +1,9 @@
 -- Elements that begin with some that do not pass a test: where the first that passes stands, and one block of them more.
-use Rattle.std.proofs.Common.{◌≡◌, ◌∙◌, ℕ, zero, suc, ◌+◌, ◌≤◌, Bool, true, false, not, ◌&&◌, List, [], ◌∷◌, length, take, drop, cond, refl, ap, arith, position, option_map}
+use Rattle.std.proofs.Common.{◌≡◌, ◌∙◌, ℕ, zero, suc, ◌+◌, ◌≤◌, Bool, true, false, not, ◌&&◌, List, [], ◌∷◌, length, take, drop, cond, ap, arith, position, option_map}
 use Rattle.std.proofs.Common.{length-drop, take-add}
 use Rattle.std.proofs.lemmas.List.Folds.{list_all-append}
 use Rattle.std.specs.List.{list_all, position_or_len}
-
-both : (a b : Bool) → (a && b) ≡ true → (a ≡ true) × (b ≡ true)
-both true b e = (refl, e)
-both false b e = absurd (cc)
+use Rattle.std.proofs.lemmas.Bool.{and_parts}
 
 module _ {X : Type 0} (test : X → Bool) where
   abbrev fails : X → Bool
@@ -20,7 +17,7 @@ module _ {X : Type 0} (test : X → Bool) where
   later zero xs within all = omega arith
   later (suc n) [] within all = absurd (omega (arith, within))
   later (suc n) (x ∷ xs) within all =
-      let parts = both (fails x) (list_all fails (take n xs)) all in
+      let parts = and_parts (fails x) (list_all fails (take n xs)) all in
       one_later (test x) n (position_or_len test xs) (position_or_len test (drop n xs)) parts.0 (later n xs (omega (arith, within)) parts.1)
 
   pub behind_failing : (n : ℕ) (xs : List X) → n ≤ length xs → list_all fails (take n xs) ≡ true

@@ -1,7 +1,7 @@
 //! Which places of a permute take part, and where they are sent.
 
 ghost use Rattle.std.specs.Prelude.{◌≡◌, ◌<◌, ℤ, List, length, Option, None, slice_index_or};
-ghost use Rattle.cvl_base.specs.Permutes.{all_destinations, flagged_destinations, destination_if};
+ghost use Rattle.cvl_base.specs.Permutes.{destination_if};
 
 /// The destinations of places, one after another: the index of each place that takes part.
 pub trait Destinations {

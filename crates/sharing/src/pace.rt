@@ -1,7 +1,7 @@
 //! Whether workers race for the tiles of a vector, how many, and for tiles of which length.
 
 ghost use Rattle.std.specs.Prelude.{◌≡◌, ◌≤◌, IfSome};
-ghost use Rattle.cvl_base.specs.Limits.{longest_tile, most_elements, most_workers};
+ghost use Rattle.cvl_base.specs.Limits.{longest_tile, most_elements};
 ghost use Rattle.sharing.specs.Races.{race_of};
 ghost use Rattle.sharing.specs.Shares.{writing_threads};
 

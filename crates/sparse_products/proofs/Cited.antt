@@ -1,7 +1,7 @@
 -- What the proofs of this crate cite of its specs, of the crates below and of the standard library, passed on from one place. Declares nothing.
 pub use Rattle.std.proofs.Common.{[], if◌then◌else◌, ◌&&◌, ◌*ℤ◌, ◌*◌, ◌++◌, ◌+ℤ◌, ◌+◌, ◌-ℤ◌, ◌-◌, ◌<ℤ◌, ◌<◌, ◌∙◌, ◌∷◌, ◌≡◌, ◌≢◌, ◌≤ℤ◌, ◌≤◌, ap, append-nil, append_assoc, arith, Bool, cond, drop}
 pub use Rattle.std.proofs.Common.{drop-drop, Err, false, fold, get_or, get_or-set_other, IfSome, inl, inr, le-ltb, length, length-append, length-drop, List, lt-ltb, map, nat_lt, negsuc, None, of_z}
-pub use Rattle.std.proofs.Common.{Ok, ok_or, Option, option_map, pos, position, refl, Result, rules, Some, subst, sum, sym, take, take-add, take-append-drop, take-take, take_all, to_z, true}
+pub use Rattle.std.proofs.Common.{Ok, ok_or, Option, option_map, pos, position, refl, Result, rules, Some, subst, sum, sym, take, take-add, take-append-drop, take_all, to_z, true}
 pub use Rattle.std.proofs.Common.{unsigned_abs, unwrap_or, vec_capacity, vec_len, w32, zip, ℕ, ℤ}
 pub use Rattle.std.proofs.Math.ListN.{length-set, set}
 pub use Rattle.std.proofs.lemmas.Bool.Decides.{leb_tells, nat_tests}

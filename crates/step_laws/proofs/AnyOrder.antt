@@ -1,29 +1,12 @@
 -- In whatever order the parts of a step are run, each leaves what `does` says of what it had before the step.
-use Rattle.std.proofs.Common.{◌≡◌, ◌≢◌, ◌==◌, ◌+◌, ◌∙◌, ℕ, zero, suc, true, false, List, [], ◌∷◌, length, slice_get, slice_set, Some, refl, sym, ap, arith, eqb, count_by, cond, subst}
+use Rattle.std.proofs.Common.{◌≡◌, ◌≢◌, ◌==◌, ◌+◌, ◌∙◌, ℕ, suc, true, false, List, [], ◌∷◌, length, slice_get, slice_set, Some, refl, sym, ap, arith, eqb, count_by, cond, subst, length-set}
 use Rattle.std.proofs.Common.{⊎_elim}
 use Rattle.std.proofs.lemmas.Bool.Decides.{eqb_tells}
 use Rattle.std.proofs.lemmas.List.Sums.{sum_by-cons}
-use Rattle.std.proofs.lemmas.Option.{none-some, same_Some, slice_get_within}
+use Rattle.std.proofs.lemmas.Option.{same_Some, slice_get_within}
 use Rattle.std.specs.List.{AllZip}
+use Rattle.call_laws.proofs.ElementPlaces.{get-set_other, get-set_same}
 use Rattle.step_laws.specs.Steps.{InParts, RunIn}
-
-module _ {S : Type 0} where
-  set-same : (xs : List S) (k : ℕ) (x y : S) → slice_get xs k ≡ Some x → slice_get (slice_set xs k y) k ≡ Some y
-  set-same [] k x y here = absurd (none-some x here)
-  set-same (z ∷ xs) zero x y here = refl
-  set-same (z ∷ xs) (suc k) x y here = set-same xs k x y here
-
-  set-other : (xs : List S) (j k : ℕ) (y : S) → j ≢ k → slice_get (slice_set xs j y) k ≡ slice_get xs k
-  set-other [] j k y other = refl
-  set-other (z ∷ xs) zero zero y other = absurd (other refl)
-  set-other (z ∷ xs) zero (suc k) y other = refl
-  set-other (z ∷ xs) (suc j) zero y other = refl
-  set-other (z ∷ xs) (suc j) (suc k) y other = set-other xs j k y (λ e. other (ap suc e))
-
-  set-long : (xs : List S) (k : ℕ) (y : S) → length (slice_set xs k y) ≡ length xs
-  set-long [] k y = refl
-  set-long (z ∷ xs) zero y = refl
-  set-long (z ∷ xs) (suc k) y = ap suc (set-long xs k y)
 
 -- how often a number stands in an order that begins with another
 counted : (j k : ℕ) (order : List ℕ) → count_by (λ i. i == k) (j ∷ order) ≡ cond (eqb j k) 1 0 + count_by (λ i. i == k) order
@@ -38,7 +21,7 @@ module _ {S : Type 0} (does : S → S → Type 0) where
       ⊎_elim
       (λ (is : (eqb j k ≡ true) × (j ≡ k)). let more : 1 + count_by (λ i. i == k) order ≡ 0 = rw (counted j k order, is.0) at none in absurd (omega (arith, more)))
       (λ (is : (eqb j k ≡ false) × (j ≢ k)). let rest : 0 + count_by (λ i. i == k) order ≡ 0 = rw (counted j k order, is.0) at none in
-      never order (slice_set before j run.1) after k (omega (arith, rest)) run.4 ∙ set-other before j k run.1 is.1)
+      never order (slice_set before j run.1) after k (omega (arith, rest)) run.4 ∙ get-set_other before j run.1 k (λ e. is.1 (sym e)))
       (eqb_tells j k)
 
   -- one that is named once leaves what it does
@@ -50,15 +33,16 @@ module _ {S : Type 0} (does : S → S → Type 0) where
       (λ (is : (eqb j k ≡ true) × (j ≡ k)). let more : 1 + count_by (λ i. i == k) order ≡ 1 = rw (counted j k order, is.0) at one in
       let there : slice_get before k ≡ Some run.0 = subst (λ i. slice_get before i ≡ Some run.0) is.1 run.2 in
       let same : run.0 ≡ own = same_Some run.0 own (sym there ∙ here) in
-      let now : slice_get (slice_set before j run.1) k ≡ Some run.1 = subst (λ i. slice_get (slice_set before j run.1) i ≡ Some run.1) is.1 (set-same before j run.0 run.1 run.2) in
+      let set = get-set_same before j run.1 (slice_get_within before j run.0 run.2) in
+      let now : slice_get (slice_set before j run.1) k ≡ Some run.1 = subst (λ i. slice_get (slice_set before j run.1) i ≡ Some run.1) is.1 set in
       (run.1, subst (λ x. does x run.1) same run.3, never order (slice_set before j run.1) after k (omega (arith, more)) run.4 ∙ now))
       (λ (is : (eqb j k ≡ false) × (j ≢ k)). let rest : 0 + count_by (λ i. i == k) order ≡ 1 = rw (counted j k order, is.0) at one in
-      once order (slice_set before j run.1) after k own (set-other before j k run.1 is.1 ∙ here) (omega (arith, rest)) run.4)
+      once order (slice_set before j run.1) after k own (get-set_other before j run.1 k (λ e. is.1 (sym e)) ∙ here) (omega (arith, rest)) run.4)
       (eqb_tells j k)
 
   as_long : (order : List ℕ) (before after : List S) → RunIn does order before after → length after ≡ length before
   as_long [] before after run = ap length run
-  as_long (k ∷ order) before after run = as_long order (slice_set before k run.1) after run.4 ∙ set-long before k run.1
+  as_long (k ∷ order) before after run = as_long order (slice_set before k run.1) after run.4 ∙ length-set before k run.1
 
   each : (before after : List S) → length after ≡ length before
       → ((k : ℕ) (own : S) → slice_get before k ≡ Some own → (left : S) × does own left × (slice_get after k ≡ Some left)) → AllZip does before after

@@ -5,7 +5,6 @@ use Rattle.std.proofs.lemmas.Option.{none-some}
 use Rattle.std.proofs.lemmas.Slice.Zip.{length-zip}
 use Rattle.std.specs.List.{zip}
 use Rattle.std.specs.Option.{ok_or}
-use Rattle.std.specs.Result.{result_ok}
 use Rattle.cvl_base.proofs.Elementwise.{if_as_long-fits}
 use Rattle.cvl_base.specs.CheckedSums.{fitting}
 use Rattle.cvl_base.specs.declared.fault.Fault.{Fault}
@@ -24,6 +23,7 @@ use Rattle.segment_slices.specs.Slices.{gather_segments_of, slice_within}
 use Rattle.sparse_products.specs.Answers.{checked_rows_product, rows_product, rows_within}
 use Rattle.sparse_products.specs.Products.{row_product, row_total}
 use Rattle.c_calls.specs.Calls.{by_segments, in_limit, lengths_of}
+use Rattle.call_laws.proofs.Sending.{unless-Ok}
 use Rattle.step_laws.proofs.BySegments.{by-lengths, by-limit, sizes}
 use Rattle.step_laws.proofs.MadeOf.{as-many, cuts-given, cuts-nest, made-certain, made-rows, made-values, made_alike, map-joined, zip-all}
 use Rattle.step_laws.specs.SegmentCalls.{AddUp, AsMany, IsMadeOf, of_all}
@@ -108,10 +108,6 @@ module _ {A : Type 0} (wrong : A → Option FaultNo) where
   abbrev checked : {Y : Type 0} → List A → Result Y Fault → Result Y Fault
   checked xs call = unless (first_fault 0 (map wrong xs)) call
 
-  passed : {Y : Type 0} (o : Option Fault) (call : Result Y Fault) (y : Y) → unless o call ≡ Ok y → (o ≡ None) × (call ≡ Ok y)
-  passed None call y is = (refl, is)
-  passed (Some f) call y is = absurd (none-some y (ap result_ok is))
-
   module _ {P Y : Type 0} (xs : P → List A) where
     pass-all : (own : P → Result (List Y) Fault) (parts : List P) (lists : List (List Y)) → map (λ p. checked (xs p) (own p)) parts ≡ map (λ l. Ok l) lists
         → (first_fault 0 (map wrong (joined (map xs parts))) ≡ None) × (map own parts ≡ map (λ l. Ok l) lists)
@@ -121,7 +117,7 @@ module _ {A : Type 0} (wrong : A → Option FaultNo) where
     pass-all own (p ∷ parts) (l ∷ lists) are =
         let here : checked (xs p) (own p) ≡ Ok l = cc in
         let more : map (λ q. checked (xs q) (own q)) parts ≡ map (λ m. Ok m) lists = cc in
-        let first = passed (first_fault 0 (map wrong (xs p))) (own p) l here in
+        let first = unless-Ok (first_fault 0 (map wrong (xs p))) (own p) l here in
         let rest = pass-all own parts lists more in
         (first-both 0 (xs p) (joined (map xs parts)) first.0 rest.0, (λ i. first.1 i ∷ rest.1 i))
 
@@ -137,7 +133,7 @@ module _ {A : Type 0} (wrong : A → Option FaultNo) where
     made-checked parts whole own made = record {
       all = λ lists are. let pass = pass-all own parts lists are in ap (λ o. unless o whole) pass.0 ∙ made.all lists pass.1;
       each = λ ys is.
-          let pass = passed (first_fault 0 (map wrong (joined (map xs parts)))) whole ys is in
+          let pass = unless-Ok (first_fault 0 (map wrong (joined (map xs parts)))) whole ys is in
           let each = made.each ys pass.1 in (each.0, pass-each own parts pass.0 ∙ each.1, each.2);
     }
 

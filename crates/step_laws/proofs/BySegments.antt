@@ -22,8 +22,9 @@ use Rattle.cvl_base.specs.Limits.{most_places}
 use Rattle.cvl_base.specs.Lists.{joined}
 use Rattle.segdes.proofs.Checked.{lengths_made}
 use Rattle.c_calls.specs.Calls.{by_segments, in_limit, lengths_of}
+use Rattle.call_laws.proofs.TwoParts.{from_value}
 use Rattle.step_laws.proofs.Answered.{within}
-use Rattle.step_laws.proofs.MadeOf.{from_value, made_by_alike}
+use Rattle.step_laws.proofs.MadeOf.{made_by_alike}
 use Rattle.step_laws.proofs.Parted.{all-parts, some-fewer}
 use Rattle.step_laws.proofs.SegmentLengths.{some-less}
 use Rattle.step_laws.specs.SegmentCalls.{IsMadeBy, IsMadeOf, of_all}

@@ -1,8 +1,8 @@
 -- Sums by place that have to fit 32 bits, by rooms of the parts' own and by ranges.
-use Rattle.std.proofs.Common.{◌≡◌, ◌∙◌, ◌==◌, ◌+◌, ◌∷◌, ◌≤◌, ◌+ℤ◌, ℕ, ℤ, true, false, Bool, IsTrue, List, [], All}
-use Rattle.std.proofs.Common.{ap, arith, length, map, nat_lt, not, refl, subst, sym, zip, None, Some, Option, Result, Ok, Err}
+use Rattle.std.proofs.Common.{◌≡◌, ◌∙◌, ◌==◌, ◌+◌, ◌∷◌, ◌≤◌, ◌+ℤ◌, ℕ, ℤ, true, IsTrue, List, [], All}
+use Rattle.std.proofs.Common.{ap, arith, length, map, nat_lt, not, refl, subst, sym, zip, None, Some, Result, Ok}
 use Rattle.std.proofs.lemmas.List.Elements.{All-cons, All-head, All-nil, All-tail}
-use Rattle.std.proofs.lemmas.Option.{none-some, same_Some}
+use Rattle.std.proofs.lemmas.Option.{same_Some}
 use Rattle.std.specs.List.{AllPass, AllZip}
 use Rattle.std.specs.Prelude.{if◌then◌else◌}
 use Rattle.std.specs.Result.{result_ok}
@@ -10,7 +10,7 @@ use Rattle.c_calls.specs.Calls.{in_limit}
 use Rattle.c_calls.specs.Told.{RoomTold, Told, done}
 use Rattle.combine_parts.specs.CheckedSums.{all_fit, range_sums_of, share_sums_of, sums_or}
 use Rattle.combine_parts.specs.RoomJoins.{joined_share_of}
-use Rattle.combining_permutes.specs.CombiningPermutes.{combine_of, combined}
+use Rattle.combining_permutes.specs.CombiningPermutes.{combined}
 use Rattle.cvl_base.proofs.Elementwise.{if_as_long-fits}
 use Rattle.cvl_base.specs.CheckedSums.{fitting}
 use Rattle.cvl_base.specs.declared.fault.Fault.{Fault}
@@ -27,14 +27,15 @@ use Rattle.long_sums.specs.LongLaws.{long_laws}
 use Rattle.long_sums.specs.LongSums.{long_sum_of}
 use Rattle.long_sums.specs.RoomSums.{all_fitting}
 use Rattle.permute_walks.specs.Indices.{first_outside}
+use Rattle.call_laws.proofs.TwoParts.{from_value}
 use Rattle.step_laws.proofs.Answered.{is_done, is_given, within}
-use Rattle.step_laws.proofs.CombinedInRooms.{Joins, Made, as_many, joined_all, left_of_each, none_outside}
+use Rattle.step_laws.proofs.CombinedInRooms.{Joins, as_many, joined_all, none_outside}
 use Rattle.step_laws.proofs.LongRooms.{all-joined, all_grow, all_long, first_grows}
 use Rattle.step_laws.proofs.OwnGiven.{agree, passed}
 use Rattle.step_laws.proofs.Parted.{alike, alike_where, as-long, keeps, some-fewer}
 use Rattle.step_laws.proofs.RangesOfRoom.{ranges_joined}
-use Rattle.step_laws.proofs.SummedInParts.{made_long, opened}
-use Rattle.step_laws.specs.CombineParts.{BeginAt, Block, HaveMemory, Share, SumsAlone, elements_of, index_of, room_of}
+use Rattle.step_laws.proofs.SummedInParts.{made_long}
+use Rattle.step_laws.specs.CombineParts.{BeginAt, Block, HaveMemory, Share, elements_of, index_of, room_of}
 use Rattle.step_laws.specs.CombineSteps.{JoinsChecked, Narrows, SumsOwn, SumsRange}
 
 -- ---- sums that fit
@@ -57,8 +58,8 @@ module _ (meaning : Result (List ℤ) Fault) (before now : List ℤ) (told : Tol
   made_sums : (sums : List ℤ) × (meaning ≡ Ok sums) × AllPass is_number sums
   made_sums =
       let given : all_fit meaning ≡ Ok tt = is_given (all_fit meaning) tt tt told in
-      let fitted = opened {X = List ℤ} {Y = Unit {0}} (meaning >>= all_fitting 0) (λ _. Ok tt) tt given in
-      let sums = opened {X = List ℤ} {Y = List ℤ} meaning (all_fitting 0) fitted.0 fitted.1 in
+      let fitted = from_value {X = List ℤ} {Y = Unit {0}} (meaning >>= all_fitting 0) (λ _. Ok tt) tt given in
+      let sums = from_value {X = List ℤ} {Y = List ℤ} meaning (all_fitting 0) fitted.0 fitted.1 in
       (sums.0, sums.1, all_fitting-fit 0 sums.0 fitted.0 sums.2)
 
   pub are_made : (meaning ≡ Ok now) × AllPass is_number now

@@ -27,7 +27,7 @@ use Rattle.cvl_base.specs.Scans.{int_join_of, int_unit_of}
 use Rattle.long_sums.specs.LongSums.{long_sum_of}
 use Rattle.part_calls.specs.Sums.{all_fitting}
 use Rattle.range_walks.specs.Ranges.{scans_of}
-use Rattle.scan_walks.proofs.Fitted.{none_overflows, overflows, zero_wrapped}
+use Rattle.scan_walks.proofs.Fitted.{none_overflows, overflows, wrapped_scans, zero_wrapped}
 use Rattle.scan_walks.proofs.WholeSums.{all_whole, whole_laws}
 use Rattle.scan_walks.specs.Fronts.{fitting_front}
 use Rattle.segment_parts.proofs.Scanned.{part-fits}
@@ -56,12 +56,6 @@ abbrev Sums : Type 0
 Sums = SegPart ℤ
 
 -- ---- the sums of a part that wrap are its wrapped sums
-
-wrapped_scans : (lengths : List ℕ) (xs : List ℤ) → scans_of sum_of (pos 0) lengths xs ≡ map wrap (scans_of ◌+ℤ◌ (pos 0) lengths xs)
-wrapped_scans [] xs = refl
-wrapped_scans (n ∷ ns) xs =
-    (λ i. (ap (λ z. scan_of sum_of z (take n xs)) (sym zero_wrapped) ∙ wrapped (pos 0) (take n xs)) i ++ wrapped_scans ns (drop n xs) i)
-    ∙ sym (map-append wrap (scan_of ◌+ℤ◌ (pos 0) (take n xs)) (scans_of ◌+ℤ◌ (pos 0) ns (drop n xs)))
 
 -- the sums in a part, over whole numbers and wrapped
 abbrev exact_sums : Sums → List ℤ

@@ -1,25 +1,23 @@
 -- Combining permutes by ranges of their room, of an operator that is known or not, for integers and booleans alike.
-use Rattle.std.proofs.Common.{◌≡◌, ◌∙◌, ◌+◌, ◌≤◌, ℕ, ℤ, List, All, ap, arith, length, map, nat_lt, refl, subst, sym, zip, None, Option, Some, Result, Ok, Err}
+use Rattle.std.proofs.Common.{◌≡◌, ◌∙◌, ◌+◌, ◌≤◌, ℕ, ℤ, List, All, ap, arith, length, map, nat_lt, refl, subst, sym, zip, None, Result, Ok, Err}
 use Rattle.std.proofs.lemmas.Bool.{le-ltb}
 use Rattle.std.proofs.lemmas.List.Elements.{All-map}
 use Rattle.std.specs.List.{AllZip}
-use Rattle.c_calls.specs.Calls.{by_operator, in_limit}
 use Rattle.c_calls.specs.Told.{Told, done}
 use Rattle.c_calls.specs.declared.status.CvlStatus.{CvlStatus}
 use Rattle.call_laws.proofs.CombinedRooms.{outside-rooms}
-use Rattle.combine_parts.specs.Cuts.{CutTold, IsCut, are_places_of, may_cut}
-use Rattle.combining_permutes.specs.CombiningPermutes.{combine_of, combined, named_between}
+use Rattle.combine_parts.specs.Cuts.{CutTold, IsCut, are_places_of}
+use Rattle.combining_permutes.specs.CombiningPermutes.{combined}
 use Rattle.cvl_base.proofs.Elementwise.{if_as_long-fits}
 use Rattle.cvl_base.specs.declared.fault.Fault.{Fault}
 use Rattle.cvl_base.specs.declared.fault.FaultNo.TheVariants as no
 use Rattle.cvl_base.specs.Faults.{fault}
-use Rattle.cvl_base.specs.Gives.{unless}
 use Rattle.cvl_base.specs.Limits.{most_places}
 use Rattle.cvl_base.specs.Lists.{joined}
 use Rattle.part_calls.specs.CombineRanges.{combine_range_of, joined_and_counted}
-use Rattle.part_calls.specs.Limits.{few_enough, range_within}
+use Rattle.part_calls.specs.Limits.{few_enough}
 use Rattle.permute_walks.specs.Indices.{first_outside}
-use Rattle.step_laws.proofs.Answered.{is_given, numbered, within}
+use Rattle.step_laws.proofs.Answered.{is_given, numbered}
 use Rattle.step_laws.proofs.CombinedInRooms.{left_of_each}
 use Rattle.step_laws.proofs.OwnGiven.{passed, unless_none}
 use Rattle.step_laws.proofs.Parted.{alike_where}

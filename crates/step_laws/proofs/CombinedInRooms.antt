@@ -10,6 +10,7 @@ use Rattle.c_calls.specs.Told.{Told, done}
 use Rattle.c_calls.specs.declared.status.CvlStatus.{CvlStatus}
 use Rattle.call_laws.proofs.CombinedRooms.{joined-rooms, outside-rooms}
 use Rattle.call_laws.specs.InRooms.{own_room}
+use Rattle.call_laws.proofs.TwoParts.{zip-append}
 use Rattle.combine_parts.specs.OwnRooms.{OwnTold, own_room_of}
 use Rattle.combine_parts.specs.RoomJoins.{joined_share_of, lie_within, shares_of, starts_of, with_rooms}
 use Rattle.combining_permutes.specs.CombiningPermutes.{combine_of, combined, sent_there}
@@ -25,7 +26,7 @@ use Rattle.cvl_base.specs.Monoid.{MonoidLaws}
 use Rattle.exact_combines.proofs.Same.{zip_items}
 use Rattle.permute_walks.specs.Indices.{first_outside}
 use Rattle.step_laws.proofs.Answered.{numbered, within}
-use Rattle.step_laws.proofs.OwnGiven.{combine_given, own_given, owns, zip_both}
+use Rattle.step_laws.proofs.OwnGiven.{combine_given, own_given, owns}
 use Rattle.step_laws.proofs.Parted.{alike, alike_where, all-parts, as-long, keeps}
 use Rattle.step_laws.proofs.RoomShares.{known_shares, places_of_share, shares_joined, shares_within}
 use Rattle.step_laws.specs.CombineParts.{BeginAt, Block, HaveMemory, OwnAlone, RoomAlone, Share, elements_of, index_of, room_of}
@@ -46,7 +47,7 @@ pub sends-joined : {X Y : Type 0} (blocks : List (Block X Y)) → All (λ b. len
 sends-joined [] long = refl
 sends-joined {X} {Y} (b ∷ blocks) long =
     ap (λ sends. zip b.index b.elements ++ sends) (sends-joined blocks (All-tail (λ (b : Block X Y). length b.elements ≡ length b.index) b blocks long))
-    ∙ sym (zip_both b.index (index_of blocks) b.elements (elements_of blocks) (All-head (λ (b : Block X Y). length b.elements ≡ length b.index) b blocks long))
+    ∙ sym (zip-append b.index b.elements (index_of blocks) (elements_of blocks) (sym (All-head (λ (b : Block X Y). length b.elements ≡ length b.index) b blocks long)))
 
 items_of_each : {X Y : Type 0} (is_item : X → Bool) (blocks : List (Block X Y)) → All (All (λ x. is_item x ≡ true)) (map (λ b. b.elements) blocks)
     → All (λ b. AllPass (λ p. is_item p.1) (sends_of b)) blocks

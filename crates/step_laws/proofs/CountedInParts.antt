@@ -1,5 +1,5 @@
 -- Counts by place, by rooms of the parts' own and by ranges.
-use Rattle.std.proofs.Common.{◌≡◌, ◌∙◌, ◌+◌, ◌++◌, ◌∷◌, ◌≤◌, ℕ, ℤ, pos, true, List, [], All, ap, arith, get_or, length, map, refl, replicate, subst, sym, take, None, Result, Ok}
+use Rattle.std.proofs.Common.{◌≡◌, ◌∙◌, ◌+◌, ◌++◌, ◌∷◌, ◌≤◌, ℕ, ℤ, pos, List, [], All, ap, arith, get_or, length, map, refl, replicate, subst, sym, take, None, Ok}
 use mathlib.Core.List.{map-map}
 use Rattle.std.proofs.lemmas.List.{length-append, length-map, length-replicate, length-take, replicate-append-replicate}
 use Rattle.std.proofs.lemmas.List.Elements.{All-map}
@@ -8,8 +8,7 @@ use Rattle.std.specs.List.{AllZip, count_by, range_with_len}
 use Rattle.c_calls.specs.Calls.{in_limit}
 use Rattle.c_calls.specs.Told.{Told, done}
 use Rattle.call_laws.proofs.CombinedRooms.{counted-rooms, outside-rooms}
-use Rattle.combine_parts.specs.OwnRooms.{own_counts_of}
-use Rattle.combine_parts.specs.RoomJoins.{joined_share_of, lie_within, shares_of, starts_of, with_rooms}
+use Rattle.combine_parts.specs.RoomJoins.{lie_within, shares_of, starts_of, with_rooms}
 use Rattle.combining_permutes.specs.CombiningPermutes.{named_between, names, place_counts, place_counts_of}
 use Rattle.cvl_base.specs.Gives.{unless}
 use Rattle.cvl_base.specs.Integers.{sum_of}

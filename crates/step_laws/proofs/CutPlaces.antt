@@ -2,7 +2,7 @@
 use Rattle.std.proofs.Common.{◌≡◌, ◌≢◌, ◌∙◌, ◌+◌, ◌-◌, ◌==◌, ◌&&◌, ◌<◌, ◌^◌, ℕ, pos, Bool, true, false, not, nat_lt, List, [], ◌∷◌, ◌++◌, length, map, sum, Ok, Err, refl, sym, ap, arith}
 use Rattle.std.proofs.Common.{All, eqb, take_all, unsigned_abs, ⊎_elim}
 use Rattle.std.proofs.Math.Bool.{and-false}
-use Rattle.std.proofs.lemmas.Bool.{eq-eqb, le-ltb, lt-ltb, ne_eqb}
+use Rattle.std.proofs.lemmas.Bool.{and_parts, eq-eqb, eqb-true, le-ltb, lt-ltb, ne_eqb}
 use Rattle.std.proofs.lemmas.Bool.Decides.{eqb_tells}
 use Rattle.std.proofs.lemmas.List.{length-map}
 use Rattle.std.proofs.lemmas.List.Elements.{All-head, All-tail}
@@ -178,16 +178,6 @@ module _ {P : Type 0} (one other : P → ℕ) where
   given true false xs ys zs many is = absurd (none-some zs (ap result_ok is))
   given false are xs ys zs many is = absurd (none-some zs (ap result_ok is))
 
-  and-right : (a b : Bool) → (a && b) ≡ true → b ≡ true
-  and-right true b is = is
-  and-right false b is = absurd cc
-
-  same-number : (m n : ℕ) → (m == n) ≡ true → m ≡ n
-  same-number m n is =
-      ⊎_elim
-      (λ (same : (eqb m n ≡ true) × (m ≡ n)). same.1) (λ (differ : (eqb m n ≡ false) × (m ≢ n)). let never : false ≡ true = sym differ.0 ∙ is in absurd cc)
-      (eqb_tells m n)
-
   pub both-given : (parts : List P) (len : ℕ) (places : List ℕ) → added_places_of (places_of (map one parts)) (places_of (map other parts)) len ≡ Ok places
       → (sum (map (λ p. one p + other p) parts) ≡ len) × (places ≡ places_of (map (λ p. one p + other p) parts))
   both-given parts len places is =
@@ -196,8 +186,8 @@ module _ {P : Type 0} (one other : P → ℕ) where
       omega (arith, length-places_of (map one parts), length-places_of (map other parts), length-map parts one, length-map parts other) in
       let found = given (length starts == length others) (are_places fits-place ◌+◌ starts others len) starts others places many is in
       let last : ends_at len (places_of_pairs fits-place ◌+◌ starts others) ≡ true =
-      and-right (list_all (λ p. fits-place p.0 p.1) (zip starts others)) (ends_at len (places_of_pairs fits-place ◌+◌ starts others)) found.0 in
-      (same-number (sum sums) len (sym (ends-total sums len) ∙ sym (ap (ends_at len) (both-places parts)) ∙ last), found.1 ∙ both-places parts)
+      (and_parts (list_all (λ p. fits-place p.0 p.1) (zip starts others)) (ends_at len (places_of_pairs fits-place ◌+◌ starts others)) found.0).1 in
+      (eqb-true (sum sums) len (sym (ends-total sums len) ∙ sym (ap (ends_at len) (both-places parts)) ∙ last), found.1 ∙ both-places parts)
 
   -- places that end below 2^64 fit 64 bits
   all-fit : (from more : ℕ) (parts : List P) → (from + more) + sum (map (λ p. one p + other p) parts) < 2 ^ 64

@@ -18,10 +18,10 @@ use Rattle.exact_combines.specs.ExactCombines.{seg_checked_combine_of, seg_exact
 use Rattle.long_sums.specs.LongSums.{may_grow}
 use Rattle.long_sums.specs.RoomSums.{all_growing, growing}
 use Rattle.c_calls.specs.Calls.{by_segments, in_limit, lengths_of}
+use Rattle.call_laws.proofs.TwoParts.{from_value}
 use Rattle.step_laws.proofs.ByElement.{made-elements}
 use Rattle.step_laws.proofs.BySegments.{by-limit, sizes}
 use Rattle.step_laws.proofs.Families.{by-two, made-combined}
-use Rattle.step_laws.proofs.MadeOf.{from_value}
 use Rattle.step_laws.specs.SegmentCalls.{AddUp, AsMany, IsMadeOf, of_all}
 
 -- ---- a look at the rooms, and then a call

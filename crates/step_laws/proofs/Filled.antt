@@ -1,18 +1,18 @@
 -- What the parts of a result hold, whose segments each have a value: together it is what all segments hold.
-use Rattle.std.proofs.Common.{◌≡◌, ◌++◌, ◌+◌, ◌-◌, ◌<◌, ◌≤◌, ◌∙◌, ℕ, zero, suc, true, leb, IsTrue, List, [], ◌∷◌, length, map, take, drop, min, sum, zip, get_or, refl, sym, ap, arith}
+use Rattle.std.proofs.Common.{◌≡◌, ◌++◌, ◌+◌, ◌-◌, ◌<◌, ◌≤◌, ◌∙◌, ℕ, zero, suc, true, IsTrue, List, [], ◌∷◌, length, map, take, drop, min, sum, zip, get_or, refl, sym, ap, arith}
 use Rattle.std.proofs.Common.{subst, All, append_assoc, length-append, length-drop, take_at, take_all, drop-drop}
-use Rattle.std.proofs.lemmas.Bool.{and_parts, leb-true}
 use Rattle.std.proofs.lemmas.List.{append-nil, length-map, drop_more, get_or-drop, length-take, map-append}
 use Rattle.std.proofs.lemmas.List.Elements.{All-cons, All-head, All-nil, All-tail}
 use Rattle.call_laws.specs.OverRanks.{followed_by, going_on, together}
 use Rattle.cvl_base.proofs.Lists.{sum-cons}
-use Rattle.cvl_base.proofs.Nests.{lengths-cut}
+use Rattle.cvl_base.proofs.Nests.{length-cut, lengths-cut}
 use Rattle.cvl_base.specs.Limits.{most_places}
 use Rattle.cvl_base.specs.Lists.{joined}
 use Rattle.cvl_base.specs.Nests.{cut_of}
 use Rattle.segment_fills.proofs.Written.{take-both}
 use Rattle.segment_fills.specs.Fills.{with_head}
 use Rattle.segment_parts.specs.Reduces.{but_last, is_part}
+use Rattle.run_parts.proofs.PartRuns.{bounds}
 use Rattle.step_laws.specs.FillParts.{ArePartsOf, FillPart, HaveValues, done_behind, opened, room_of, segments_in}
 use Rattle.step_laws.proofs.CutBounds.{but_last-more}
 use Rattle.step_laws.proofs.Parted.{some-fewer}
@@ -44,15 +44,6 @@ module _ {Y : Type 0} where
   sums-cut [] xs = omega arith
   sums-cut (n ∷ lengths) xs =
       omega (arith, sum-cons (length (take n xs)) (map length (cut_of lengths (drop n xs))), length-take n xs, sums-cut lengths (drop n xs), length-drop n xs, sum-cons n lengths)
-
-  pub count-cut : (lengths : List ℕ) (xs : List Y) → length (cut_of lengths xs) ≡ length lengths
-  count-cut [] xs = refl
-  count-cut (n ∷ lengths) xs = ap suc (count-cut lengths (drop n xs))
-
-pub bounds : (head : ℕ) (lengths : List ℕ) (n : ℕ) → is_part head lengths n ≡ true → (head + sum (but_last lengths) ≤ n) × (n ≤ head + sum lengths)
-bounds head lengths n is =
-    let both = and_parts (leb (head + sum (but_last lengths)) n) (leb n (head + sum lengths)) is in
-    (leb-true (head + sum (but_last lengths)) n both.0, leb-true n (head + sum lengths) both.1)
 
 -- ---- what segments hold
 
@@ -186,7 +177,7 @@ module _ {X Y : Type 0} (of : X → ℕ → ℕ → List Y) (holds : Holds of) (
         let own_segments = going_on (take l starts) (cut_of ls (drop l starts)) front in
         let sums = lengths-going_on (take l starts) (cut_of ls (drop l starts)) front in
         let split = same-front (map length own_segments) (map length segments) lengths more
-        (omega (arith, length-map own_segments length, sums.1, count-cut ls (drop l starts))) (sym (map-append length own_segments segments) ∙ cut) in
+        (omega (arith, length-map own_segments length, sums.1, length-cut ls (drop l starts))) (sym (map-append length own_segments segments) ∙ cut) in
         let total : (n - head) + m ≡ sum lengths =
         omega (arith, ap sum split.0, sums.0, sums-cut lengths starts, length-drop head room, few, enough) in
         let long : length (take head room) ≡ head = omega (arith, length-take head room, enough) in

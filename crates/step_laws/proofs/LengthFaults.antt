@@ -7,9 +7,9 @@ use Rattle.cvl_base.specs.Faults.{fault}
 use Rattle.cvl_base.specs.Gives.{◌>>=◌, fault_if}
 use Rattle.cvl_base.specs.Limits.{most_places}
 use Rattle.part_records.specs.Totals.{total_within}
+use Rattle.call_laws.proofs.TwoParts.{from_value}
 use Rattle.step_laws.proofs.BySegments.{each-lengths, few, own-sizes, sizes, sum-parts}
 use Rattle.step_laws.proofs.CutVectors.{told-totals}
-use Rattle.step_laws.proofs.MadeOf.{from_value}
 use Rattle.step_laws.proofs.PartFaults.{HasFault, no-value, of_part}
 use Rattle.step_laws.specs.LengthSteps.{Measures}
 use Rattle.step_laws.specs.Parts.{Part, elements_of, told_of}

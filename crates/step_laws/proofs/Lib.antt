@@ -83,5 +83,4 @@ pub mod TextPieces
 pub mod Texted
 pub mod TransposedBySteps
 pub mod TurnedKeys
-pub mod TurnedValues
 pub mod Valued

@@ -7,7 +7,6 @@ use Rattle.std.proofs.lemmas.Option.{none-some}
 use Rattle.std.specs.List.{AllPass, AllZip}
 use Rattle.std.specs.Prelude.{if◌then◌else◌}
 use Rattle.std.specs.Result.{result_ok}
-use Rattle.combining_permutes.specs.CombiningPermutes.{combined}
 use Rattle.cvl_base.specs.declared.fault.Fault.{Fault}
 use Rattle.cvl_base.specs.declared.fault.FaultNo.TheVariants.{Overflow}
 use Rattle.cvl_base.specs.Elementwise.{values_from}
@@ -69,7 +68,3 @@ all-same [] [] same = refl
 all-same [] (y ∷ ys) same = absurd same
 all-same (x ∷ xs) [] same = absurd same
 all-same (x ∷ xs) (y ∷ ys) same = (λ t. same.0 t ∷ all-same xs ys same.1 t)
-
-pub none-sent : {X : Type 0} (join : X → X → X) (lowest : ℕ) (before : List X) → combined join [] lowest before ≡ before
-none-sent join lowest [] = refl
-none-sent join lowest (y ∷ before) = ap (λ zs. y ∷ zs) (none-sent join (lowest + 1) before)

@@ -1,6 +1,6 @@
 -- Calls by segments whose segments are those of some parts, one part behind another.
-use Rattle.std.proofs.Common.{◌≡◌, ◌∙◌, ◌+◌, ◌≤◌, ℕ, zero, suc, get_or, List, [], ◌∷◌, ◌++◌, length, map, sum, take, drop, Result, Ok, Err, refl, sym, ap, arith}
-use Rattle.std.proofs.Common.{All, append_assoc, length-append, length-drop}
+use Rattle.std.proofs.Common.{◌≡◌, ◌∙◌, ◌+◌, ◌≤◌, ℕ, zero, suc, get_or, List, [], ◌∷◌, ◌++◌, length, map, sum, take, drop, Result, Ok, refl, sym, ap, arith}
+use Rattle.std.proofs.Common.{All, length-append, length-drop}
 use mathlib.Core.List.{map-map}
 use Rattle.std.proofs.lemmas.List.{map-append, take-append-le}
 use Rattle.std.proofs.lemmas.List.Elements.{All-head, All-tail}
@@ -9,6 +9,7 @@ use Rattle.std.proofs.lemmas.Option.{same_Some}
 use Rattle.std.specs.List.{zip}
 use Rattle.std.specs.Result.{result_ok}
 use Rattle.call_laws.proofs.Segments.{results-meaning}
+use Rattle.call_laws.proofs.TwoParts.{from_value, joined-append, zip-append}
 use Rattle.cvl_base.proofs.Elementwise.{if_as_long-fits}
 use Rattle.cvl_base.proofs.Lists.{sum-cons}
 use Rattle.cvl_base.proofs.Nests.{nest-fits}
@@ -42,16 +43,6 @@ cut-append (n ∷ ns) more xs ys add_up =
     drop-front zero firsts seconds few = refl
     drop-front (suc k) [] seconds few = absurd (omega (arith, few))
     drop-front (suc k) (a ∷ firsts) seconds few = drop-front k firsts seconds (omega (arith, few))
-
-joined-append : {X : Type 0} (xs ys : List (List X)) → joined (xs ++ ys) ≡ joined xs ++ joined ys
-joined-append [] ys = refl
-joined-append (x ∷ xs) ys = ap (λ zs. x ++ zs) (joined-append xs ys) ∙ sym (append_assoc x (joined xs) (joined ys))
-
-zip-append : {A B : Type 0} (firsts more : List A) (seconds others : List B) → length firsts ≡ length seconds → zip (firsts ++ more) (seconds ++ others) ≡ zip firsts seconds ++ zip more others
-zip-append [] more [] others long = refl
-zip-append [] more (b ∷ seconds) others long = absurd (omega (arith, long))
-zip-append (a ∷ firsts) more [] others long = absurd (omega (arith, long))
-zip-append (a ∷ firsts) more (b ∷ seconds) others long = ap (λ ps. (a, b) ∷ ps) (zip-append firsts more seconds others (omega (arith, long)))
 
 module _ {P : Type 0} where
   -- lengths of the parts add up firsts those of all
@@ -87,7 +78,7 @@ module _ {P : Type 0} where
       → zip (joined (map firsts parts)) (joined (map seconds parts)) ≡ joined (map (λ p. zip (firsts p) (seconds p)) parts)
   zip-all firsts seconds [] long = refl
   zip-all firsts seconds (p ∷ parts) long =
-      zip-append (firsts p) (joined (map firsts parts)) (seconds p) (joined (map seconds parts)) (All-head (λ q. length (firsts q) ≡ length (seconds q)) p parts long)
+      zip-append (firsts p) (seconds p) (joined (map firsts parts)) (joined (map seconds parts)) (All-head (λ q. length (firsts q) ≡ length (seconds q)) p parts long)
       ∙ ap (λ ps. zip (firsts p) (seconds p) ++ ps) (zip-all firsts seconds parts (All-tail (λ q. length (firsts q) ≡ length (seconds q)) p parts long))
 
   pub as-many : {A B : Type 0} (firsts : P → List A) (seconds : P → List B) (parts : List P) → All (λ p. length (firsts p) ≡ length (seconds p)) parts
@@ -112,11 +103,6 @@ module _ {P : Type 0} where
   }
 
 -- ---- the calls on them
-
--- a value that comes of two steps
-pub from_value : {X Y : Type 0} (r : Result X Fault) (next : X → Result Y Fault) (y : Y) → (r >>= next) ≡ Ok y → (x : X) × (r ≡ Ok x) × (next x ≡ Ok y)
-from_value (Ok x) next y is = (x, refl, is)
-from_value (Err f) next y is = cc
 
 -- firsts many of a list of values firsts a list in front has
 parted : {S R : Type 0} (call : S → Result R Fault) (xs : List S) (others : List S) (rs : List R) → map call (xs ++ others) ≡ map (λ r. Ok r) rs

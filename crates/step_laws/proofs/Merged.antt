@@ -1,12 +1,11 @@
 -- Merges by flags by steps.
-use Rattle.std.proofs.Common.{◌≡◌, ◌≢◌, ◌∙◌, ◌+◌, ◌≤◌, ◌==◌, ◌&&◌, ℕ, suc, pos, Bool, true, false, not, List, [], ◌∷◌, ◌++◌, length, map, sum, Ok, Err, refl, sym, ap, arith, subst}
-use Rattle.std.proofs.Common.{All, cond, eqb, get_or, ⊎_elim}
+use Rattle.std.proofs.Common.{◌≡◌, ◌≢◌, ◌∙◌, ◌+◌, ◌≤◌, ◌==◌, ◌&&◌, ℕ, pos, Bool, true, false, not, List, [], ◌∷◌, ◌++◌, length, map, sum, Ok, Err, refl, sym, ap, arith, subst}
+use Rattle.std.proofs.Common.{All, eqb, get_or, ⊎_elim}
 use mathlib.Core.List.{map-map}
-use Rattle.std.proofs.lemmas.Bool.{eq-eqb, ne_eqb}
+use Rattle.std.proofs.lemmas.Bool.{ne_eqb}
 use Rattle.std.proofs.lemmas.Bool.Decides.{eqb_tells}
-use Rattle.std.proofs.lemmas.List.{length-map, map-append}
+use Rattle.std.proofs.lemmas.List.{length-map}
 use Rattle.std.proofs.lemmas.List.Elements.{All-head, All-tail}
-use Rattle.std.proofs.lemmas.List.Sums.{sum_by-append, sum_by-cons}
 use Rattle.std.specs.List.{AllZip}
 use Rattle.cvl_base.proofs.Lists.{sum-cons}
 use Rattle.cvl_base.specs.declared.fault.FaultNo.TheVariants as no
@@ -17,6 +16,8 @@ use Rattle.cvl_base.specs.Lists.{joined}
 use Rattle.cvl_base.specs.Packs.{count_of}
 use Rattle.flag_calls.specs.Flags.{flags_of}
 use Rattle.flag_merges.specs.Merges.{merge_of, merged}
+use Rattle.flag_merges.proofs.BySegments.{merged-append}
+use Rattle.flag_merges.proofs.Counted.{are_fitting, count-append, count-append-not, counts_both, merge_right, merged_long}
 use Rattle.part_cuts.proofs.Told.{length-places_of}
 use Rattle.part_cuts.specs.Places.{exact_count_places_of, exact_places_of, places_of}
 use Rattle.part_cuts.specs.Pairs.{remaining_places_of}
@@ -35,24 +36,6 @@ use Rattle.step_laws.specs.PackSteps.{ranges_of}
 abbrev pub falses_of : List Bool → ℕ
 falses_of flags = count_of (map not flags)
 
-true-more : (flags : List Bool) → count_of (true ∷ flags) ≡ 1 + count_of flags
-true-more flags = sum_by-cons (λ (flag : Bool). cond flag 1 0) true flags
-
-false-more : (flags : List Bool) → count_of (false ∷ flags) ≡ 0 + count_of flags
-false-more flags = sum_by-cons (λ (flag : Bool). cond flag 1 0) false flags
-
--- a flag is true or false
-pub both-counts : (flags : List Bool) → length flags ≡ count_of flags + falses_of flags
-both-counts [] = refl
-both-counts (true ∷ flags) = omega (arith, both-counts flags, true-more flags, false-more (map not flags))
-both-counts (false ∷ flags) = omega (arith, both-counts flags, false-more flags, true-more (map not flags))
-
-count-append : (flags others : List Bool) → count_of (flags ++ others) ≡ count_of flags + count_of others
-count-append flags others = sum_by-append (λ (flag : Bool). cond flag 1 0) flags others
-
-falses-append : (flags others : List Bool) → falses_of (flags ++ others) ≡ falses_of flags + falses_of others
-falses-append flags others = ap count_of (map-append not flags others) ∙ count-append (map not flags) (map not others)
-
 -- what adds up over lists adds up over all parts
 sum-parts : {P : Type 0} (count : List Bool → ℕ) → count [] ≡ 0 → ((xs ys : List Bool) → count (xs ++ ys) ≡ count xs + count ys) → (flags : P → List Bool) (parts : List P)
     → sum (map (λ p. count (flags p)) parts) ≡ count (joined (map flags parts))
@@ -68,31 +51,8 @@ module _ {X : Type 0} where
   abbrev pub AreFor : List Bool → List X → List X → Type 0
   AreFor flags xs ys = (count_of flags ≡ length xs) × (falses_of flags ≡ length ys)
 
-  merged-append : (flags more : List Bool) (xs others ys rest : List X) → count_of flags ≡ length xs → falses_of flags ≡ length ys
-      → merged (flags ++ more) (xs ++ others) (ys ++ rest) ≡ merged flags xs ys ++ merged more others rest
-  merged-append [] more [] others [] rest trues falses = refl
-  merged-append [] more [] others (y ∷ ys) rest trues falses = absurd (omega (arith, falses))
-  merged-append [] more (x ∷ xs) others ys rest trues falses = absurd (omega (arith, trues))
-  merged-append (true ∷ flags) more [] others ys rest trues falses = absurd (omega (arith, trues, true-more flags))
-  merged-append (true ∷ flags) more (x ∷ xs) others ys rest trues falses =
-      ap (λ zs. x ∷ zs) (merged-append flags more xs others ys rest (omega (arith, trues, true-more flags)) (omega (arith, falses, false-more (map not flags))))
-  merged-append (false ∷ flags) more xs others [] rest trues falses = absurd (omega (arith, falses, true-more (map not flags)))
-  merged-append (false ∷ flags) more xs others (y ∷ ys) rest trues falses =
-      ap (λ zs. y ∷ zs) (merged-append flags more xs others ys rest (omega (arith, trues, false-more flags)) (omega (arith, falses, true-more (map not flags))))
-
-  length-merged : (flags : List Bool) (xs ys : List X) → count_of flags ≡ length xs → falses_of flags ≡ length ys → length (merged flags xs ys) ≡ length flags
-  length-merged [] xs ys trues falses = refl
-  length-merged (true ∷ flags) [] ys trues falses = absurd (omega (arith, trues, true-more flags))
-  length-merged (true ∷ flags) (x ∷ xs) ys trues falses =
-      ap suc (length-merged flags xs ys (omega (arith, trues, true-more flags)) (omega (arith, falses, false-more (map not flags))))
-  length-merged (false ∷ flags) xs [] trues falses = absurd (omega (arith, falses, true-more (map not flags)))
-  length-merged (false ∷ flags) xs (y ∷ ys) trues falses =
-      ap suc (length-merged flags xs ys (omega (arith, trues, false-more flags)) (omega (arith, falses, true-more (map not flags))))
-
   merge-fits : (flags : List Bool) (xs ys : List X) → AreFor flags xs ys → merge_of flags xs ys ≡ Ok (merged flags xs ys)
-  merge-fits flags xs ys are =
-      (λ i. fault_if (not (eq-eqb (count_of flags) (length xs) are.0 i && (falses_of flags == length ys))) (fault no.LengthMismatch) (Ok (merged flags xs ys)))
-      ∙ (λ i. fault_if (not (eq-eqb (falses_of flags) (length ys) are.1 i)) (fault no.LengthMismatch) (Ok (merged flags xs ys)))
+  merge-fits flags xs ys are = merge_right (fault no.LengthMismatch) flags xs ys (are_fitting flags (length xs) (length ys) are.0 are.1)
 
   merge-misfits : (flags : List Bool) (xs ys : List X) → (AreFor flags xs ys → ⊥) → merge_of flags xs ys ≡ Err (fault no.LengthMismatch)
   merge-misfits flags xs ys other =
@@ -124,7 +84,7 @@ module _ {X : Type 0} where
   merges own left ((status, told), alone) (are, long, few) =
       let meant : in_limit own.flags (merge_of own.flags own.trues own.falses) ≡ Ok (own-merge own) =
       within own.flags (merge_of own.flags own.trues own.falses) few ∙ merge-fits own.flags own.trues own.falses are in
-      is_done (own-merge own) own.room left.room status (length-merged own.flags own.trues own.falses are.0 are.1 ∙ sym long)
+      is_done (own-merge own) own.room left.room status (merged_long own.flags own.trues own.falses are.0 are.1 ∙ sym long)
       (subst (λ m. RoomTold m status own.room left.room) meant told)
 
   -- ---- the steps
@@ -159,10 +119,10 @@ module _ {X : Type 0} where
     trues-total = sum-parts count_of refl count-append (λ (p : MergePart X). p.flags) start
 
     falses-total : sum (falses-in start) ≡ falses_of (flags_in start)
-    falses-total = sum-parts falses_of refl falses-append (λ (p : MergePart X). p.flags) start
+    falses-total = sum-parts falses_of refl count-append-not (λ (p : MergePart X). p.flags) start
 
     both : All (λ (p : MergePart X). length p.flags ≡ count_of p.flags + falses_of p.flags) start
-    both = λ k d within. both-counts (get_or start k d).flags
+    both = λ k d within. sym (counts_both (get_or start k d).flags)
 
     -- the place of each part in the vector for the true flags
     trues-places : (len : ℕ) → exact_count_places_of (told_of counted) len ≡ exact_places_of (trues-in start) len
@@ -234,7 +194,7 @@ module _ {X : Type 0} where
           let meant : in_limit flags (merge_of flags xs ys) ≡ Ok (room_of end) =
           within flags (merge_of flags xs ys) few ∙ merge-fits flags xs ys are ∙ ap Ok (sym whole) in
           let full : length (room_of end) ≡ length (room_of start) =
-          ap length whole ∙ length-merged flags xs ys are.0 are.1 ∙ sym (as-long (λ (p : MergePart X). p.flags) (λ (p : MergePart X). p.room) start long) in
+          ap length whole ∙ merged_long flags xs ys are.0 are.1 ∙ sym (as-long (λ (p : MergePart X). p.flags) (λ (p : MergePart X). p.room) start long) in
           subst (λ m. RoomTold m done (room_of start) (room_of end)) (sym meant) (tells_done (room_of end) (room_of start) full)
 
     -- an answer that is not done

@@ -1,6 +1,6 @@
 -- What it says of a part that it has made a room of its own.
-use Rattle.std.proofs.Common.{◌≡◌, ◌≢◌, ◌∙◌, ◌==◌, ◌++◌, ◌+◌, ◌≤◌, ◌∷◌, ℕ, ℤ, Bool, true, false, List}
-use Rattle.std.proofs.Common.{[], ap, arith, drop, eqb, length, length-append, map, nat_lt, not, refl, replicate, subst, sym, take, zip}
+use Rattle.std.proofs.Common.{◌≡◌, ◌≢◌, ◌∙◌, ◌==◌, ◌≤◌, ℕ, ℤ, Bool, true, false, List}
+use Rattle.std.proofs.Common.{ap, eqb, length, nat_lt, not, refl, sym, take, zip}
 use Rattle.std.proofs.Common.{Err, None, Ok, Option, Result, Some, ⊎_elim}
 use Rattle.std.proofs.lemmas.Bool.{false≢true, ltb-false}
 use Rattle.std.proofs.lemmas.Bool.Decides.{eqb_tells}
@@ -8,7 +8,7 @@ use Rattle.std.proofs.lemmas.Option.{none-some, same_Some}
 use Rattle.std.specs.Result.{result_ok}
 use Rattle.c_calls.specs.Told.{done}
 use Rattle.c_calls.specs.declared.status.CvlStatus.{CvlStatus}
-use Rattle.combine_parts.specs.OwnRooms.{OwnTold, may_own, own_room_of}
+use Rattle.combine_parts.specs.OwnRooms.{OwnTold, may_own}
 use Rattle.combining_permutes.specs.CombiningPermutes.{combine_of, combined}
 use Rattle.cvl_base.specs.declared.fault.Fault.{Fault}
 use Rattle.cvl_base.specs.declared.fault.FaultNo.TheVariants as no
@@ -65,12 +65,3 @@ module _ {X : Type 0} (join : X → X → X) where
   combine_given source index before result is =
       unless_none (first_outside 0 (length before) index) (combined join (zip index source) 0 before) result
       (passed (not (length source == length index)) (fault no.LengthMismatch) _ result is).1
-
--- ---- pairs of indices and elements
-
-module _ {X : Type 0} where
-  pub zip_both : (is js : List ℤ) (xs ys : List X) → length xs ≡ length is → zip (is ++ js) (xs ++ ys) ≡ zip is xs ++ zip js ys
-  zip_both [] js [] ys long = refl
-  zip_both [] js (x ∷ xs) ys long = absurd (omega (arith, long))
-  zip_both (i ∷ is) js [] ys long = absurd (omega (arith, long))
-  zip_both (i ∷ is) js (x ∷ xs) ys long = ap (λ zs. (i, x) ∷ zs) (zip_both is js xs ys (omega (arith, long)))

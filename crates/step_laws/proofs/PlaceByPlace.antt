@@ -1,11 +1,9 @@
 -- Calls by steps whose result has at each place what is made of the operands there.
-use Rattle.std.proofs.Common.{◌≡◌, ◌≢◌, ◌+◌, ◌++◌, ◌≤◌, ◌∙◌, ◌⊎◌, ℕ, suc, List, [], ◌∷◌, length, map, inl, inr, slice_get, Option, Some, None, Result, Ok, Err, refl, sym, ap, subst, All, ⊎_elim}
+use Rattle.std.proofs.Common.{◌≡◌, ◌≢◌, ◌+◌, ◌++◌, ◌≤◌, ◌∙◌, ◌⊎◌, ℕ, List, [], ◌∷◌, length, map, inl, inr, slice_get, Option, Some, None, Result, Ok, Err, refl, sym, ap, subst, All, ⊎_elim}
 use mathlib.Core.List.{map-map}
 use Rattle.std.proofs.lemmas.List.{length-map, map-append}
-use Rattle.std.proofs.lemmas.Option.{same_Some}
 use Rattle.std.specs.List.{AllZip}
 use Rattle.std.specs.Option.{ok_or}
-use Rattle.std.specs.Result.{result_ok}
 use Rattle.cvl_base.specs.declared.fault.Fault.{Fault}
 use Rattle.cvl_base.specs.declared.fault.FaultNo.{FaultNo}
 use Rattle.cvl_base.specs.Elementwise.{values_from}
@@ -13,7 +11,6 @@ use Rattle.cvl_base.specs.Faults.{fault_at, number_of}
 use Rattle.cvl_base.specs.Gives.{◌>>=◌}
 use Rattle.cvl_base.specs.Limits.{most_places}
 use Rattle.cvl_base.specs.Lists.{joined}
-use Rattle.call_laws.proofs.TwoParts.{from_value}
 use Rattle.c_calls.specs.Calls.{in_limit}
 use Rattle.c_calls.specs.Told.{RoomTold, done}
 use Rattle.c_calls.specs.declared.status.CvlStatus.{CvlStatus}
@@ -25,6 +22,7 @@ use Rattle.step_laws.proofs.ByElement.{made-elements}
 use Rattle.step_laws.proofs.PartFaults.{HasFault, failed, of_part, whole-failed}
 use Rattle.step_laws.proofs.Parted.{alike, alike_where, as-long, each-also, each-where, keeps, some-fewer}
 use Rattle.step_laws.proofs.Valued.{joined-values, long-zipped}
+use Rattle.step_laws.proofs.ReadTexts.{values-long}
 
 pub joined-map : {X Y : Type 0} (f : X → Y) (lists : List (List X)) → map f (joined lists) ≡ joined (map (map f) lists)
 joined-map f [] = refl
@@ -36,11 +34,7 @@ module _ {X Y : Type 0} (number : FaultNo) (value : X → Option Y) where
 
   -- there are as many values as places
   as-many : (place : ℕ) (xs : List X) (ys : List Y) → values_from number place (map value xs) ≡ Ok ys → length ys ≡ length xs
-  as-many place [] ys is = sym (ap length (same_Some [] ys (ap result_ok is)))
-  as-many place (x ∷ xs) ys is =
-      let first = from_value (ok_or (value x) (fault_at number place)) (λ y. values_from number (place + 1) (map value xs) >>= λ zs. Ok (y ∷ zs)) ys is in
-      let rest = from_value (values_from number (place + 1) (map value xs)) (λ zs. Ok (first.0 ∷ zs)) ys first.2 in
-      sym (ap length (same_Some (first.0 ∷ rest.0) ys (ap result_ok rest.2))) ∙ ap suc (as-many (place + 1) xs rest.0 rest.1)
+  as-many place xs ys is = values-long number place (map value xs) ys is ∙ length-map xs value
 
   -- each has a value, or the fault has the number
   abbrev Answers : Result (List Y) Fault → Type 0

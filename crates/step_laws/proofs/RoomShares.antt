@@ -1,9 +1,9 @@
 -- Shares of a room that are joined with the same places of some rooms, one after another, are the whole that is joined with these rooms.
-use Rattle.std.proofs.Common.{◌≡◌, ◌∙◌, ◌+◌, ◌-◌, ◌++◌, ◌∷◌, ◌≤◌, ℕ, IsTrue, List, [], All, ap}
+use Rattle.std.proofs.Common.{◌≡◌, ◌∙◌, ◌+◌, ◌-◌, ◌++◌, ◌∷◌, ◌≤◌, ℕ, List, [], All, ap}
 use Rattle.std.proofs.Common.{arith, drop, drop-drop, get_or, length, length-append, length-drop, map, map-id, refl, subst, suc, sym, take}
 use mathlib.Core.List.{map-map}
 use Rattle.std.proofs.lemmas.Bool.{le-leb}
-use Rattle.std.proofs.lemmas.List.{drop-take, length-map, length-take, length-take-le, take-take}
+use Rattle.std.proofs.lemmas.List.{drop-take, length-take, length-take-le, take-take}
 use Rattle.std.proofs.lemmas.List.Elements.{All-cons, All-head, All-map, All-nil, All-tail}
 use Rattle.std.proofs.lemmas.List.Sums.{list_all-from_AllPass}
 use Rattle.std.specs.Prelude.{nat_le, true}

@@ -1,23 +1,16 @@
 -- Counts of the runs of each segment by steps.
-use Rattle.std.proofs.Common.{◌≡◌, ◌++◌, ◌+◌, ◌<◌, ◌≤◌, ◌∙◌, not, ℕ, ℤ, pos, Bool, true, Option, None, Some, List, [], ◌∷◌, length, map, take, drop, sum, zip, All, Result, Ok, refl, sym, ap}
-use Rattle.std.proofs.Common.{arith, subst, if◌then◌else◌, nat_lt}
+use Rattle.std.proofs.Common.{◌≡◌, ◌++◌, ◌+◌, ◌≤◌, ◌∙◌, not, ℕ, ℤ, pos, Bool, Option, None, List, [], ◌∷◌, length, map, take, drop, sum, zip, All, Ok, refl, sym, ap}
+use Rattle.std.proofs.Common.{arith, subst, nat_lt}
 use Rattle.std.proofs.Common.{append_assoc, length-append, take_at, drop_at}
 use mathlib.Core.List.{map-map}
-use Rattle.std.proofs.Math.Seq.{take-add}
-use Rattle.std.proofs.lemmas.Bool.{le-ltb}
 use Rattle.std.proofs.lemmas.List.{length-map, take-append-drop, length-take-le}
 use Rattle.std.proofs.lemmas.List.Elements.{All-cons, All-head, All-nil, All-tail}
-use Rattle.std.proofs.lemmas.Option.{same_Some}
 use Rattle.std.specs.List.{AllZip}
-use Rattle.std.specs.Result.{result_ok}
-use Rattle.c_calls.specs.Calls.{by_operator, by_segments, in_limit, lengths_of}
-use Rattle.c_calls.specs.Numbers.{int_monoid}
-use Rattle.c_calls.specs.Told.{RoomTold, Told, done}
-use Rattle.call_table.specs.declared.families.IntMonoid.{IntMonoid}
-use Rattle.call_table.specs.declared.families.IntMonoid.TheVariants.{Add}
+use Rattle.c_calls.specs.Calls.{by_segments, in_limit, lengths_of}
+use Rattle.c_calls.specs.Told.{RoomTold, done}
 use Rattle.call_laws.specs.OverRanks.{together}
 use Rattle.cvl_base.proofs.Lists.{sum-cons}
-use Rattle.cvl_base.proofs.Nests.{lengths-cut}
+use Rattle.cvl_base.proofs.Nests.{length-cut, lengths-cut}
 use Rattle.cvl_base.specs.declared.fault.FaultNo.TheVariants as no
 use Rattle.cvl_base.specs.Faults.{fault}
 use Rattle.cvl_base.specs.Gives.{◌>>=◌, fault_if}
@@ -25,16 +18,15 @@ use Rattle.cvl_base.specs.Integers.{sum_of}
 use Rattle.cvl_base.specs.Limits.{most_places}
 use Rattle.cvl_base.specs.Lists.{joined}
 use Rattle.cvl_base.specs.Nests.{cut_of}
-use Rattle.cvl_base.specs.Scans.{int_join_of, int_unit_of}
 use Rattle.run_lengths.specs.Runs.{run_count_of}
 use Rattle.run_parts.specs.Counts.{part_run_counts_of}
 use Rattle.run_parts.specs.Runs.{in_front_of, range_of, runs_behind}
+use Rattle.run_parts.proofs.PartRuns.{bounds}
 use Rattle.segment_parts.specs.Behinds.{behind_each, goes_on, seg_behinds_of}
 use Rattle.segment_parts.proofs.Starts.{length-join_last}
-use Rattle.segment_parts.specs.Reduces.{but_last, is_part, join_last}
+use Rattle.segment_parts.specs.Reduces.{join_last}
 use Rattle.segment_values.specs.Values.{each_of}
 use Rattle.step_laws.proofs.Answered.{fills, is_done, is_given, past_limit, tells_done, within}
-use Rattle.step_laws.proofs.Filled.{bounds, count-cut}
 use Rattle.step_laws.proofs.Parted.{alike, alike_where, as-long, keeps, some-fewer}
 use Rattle.step_laws.proofs.RunCuts.{IsPart, elements-are, front-is, go_on}
 use Rattle.step_laws.proofs.RunsCounted.{begun_in, counts-together, counts_on, goes-on, pairs_on, size_on}
@@ -42,8 +34,8 @@ use Rattle.step_laws.proofs.RunsTold.{from-parts}
 use Rattle.step_laws.proofs.RunsTogether.{GoOn, behind-parted, last_of, last_of-append}
 use Rattle.step_laws.proofs.SegmentLengths.{are_lengths, few-of, nested, some-less}
 use Rattle.step_laws.specs.ReduceParts.{GoesOnAlone, HaveRooms, ReducePart, behinds_of, elements_of, room_of, segments_in, starts_of, told_of}
-use Rattle.step_laws.specs.RunParts.{AreAt, AreRunPartsOf, PartsAlone, RunPart, parts_of}
-use Rattle.step_laws.specs.RunSteps.{CountsRuns, RunsGoOn, TellsFronts}
+use Rattle.step_laws.specs.RunParts.{AreAt, AreRunPartsOf, RunPart, parts_of}
+use Rattle.step_laws.specs.RunSteps.{CountsRuns, TellsFronts}
 
 -- what a part holds and leaves of the room once its segments are counted
 module _ {X : Type 0} (differ : X → X → Bool) where
@@ -72,7 +64,7 @@ module _ {X : Type 0} (differ : X → X → Bool) where
       let front : in_front_of p.from xs ≡ last_of None before = (λ i. in_front_of (at.0 i) (whole i)) ∙ front-is before (els ++ rest) in
       let own : front_count xs p ≡ begun_in differ (last_of None before) (take r.head els) =
       (λ i. length (runs_behind differ (front i) (here i))) ∙ ap length (behind-parted differ (last_of None before) (take r.head els)) in
-      let starts : nat_lt 0 (length r.lengths) ≡ nat_lt 0 (length (cut_of r.lengths (drop r.head els))) = ap (nat_lt 0) (sym (count-cut r.lengths (drop r.head els))) in
+      let starts : nat_lt 0 (length r.lengths) ≡ nat_lt 0 (length (cut_of r.lengths (drop r.head els))) = ap (nat_lt 0) (sym (length-cut r.lengths (drop r.head els))) in
       let behind : last_of (last_of None before) ((segments_in r).0 ++ joined (segments_in r).1) ≡ last_of None (before ++ els) =
       ap (last_of (last_of None before)) (elements-are r is) ∙ sym (last_of-append None before els) in
       let others = fronts-are xs (before ++ els) parts (whole ∙ sym (append_assoc before els rest))
@@ -126,7 +118,7 @@ module _ {X : Type 0} (differ : X → X → Bool) where
       within p.elements (by_segments (map pos p.lengths) call) may.few_elements ∙ ap (λ r. r >>= call) (are_lengths p.lengths may.few_lengths may.small)
       ∙ ap (λ b. fault_if (not b) (fault no.LengthMismatch) (Ok values)) may.part in
       let long : length values ≡ length p.room =
-      length-join_last sum_of (map (run_count_of differ) cuts) p.behind ∙ length-map cuts (run_count_of differ) ∙ count-cut p.lengths (drop p.head p.elements) ∙ sym may.room in
+      length-join_last sum_of (map (run_count_of differ) cuts) p.behind ∙ length-map cuts (run_count_of differ) ∙ length-cut p.lengths (drop p.head p.elements) ∙ sym may.room in
       is_done values p.room left.part.room does.0.0 long (subst (λ m. RoomTold m does.0.0 p.room left.part.room) is does.0.1)
 
 module _ {X : Type 0} (differ : X → X → Bool) (lengths : List ℤ) (segments : List ℕ) (start : List (RunPart X)) (is : lengths_of lengths ≡ Ok segments)
@@ -238,7 +230,7 @@ module _ {X : Type 0} (differ : X → X → Bool) (lengths : List ℤ) (segments
         let meaning : by_segments lengths (each_of (run_count_of differ) xs) ≡ Ok values =
         ap (λ r. r >>= each_of (run_count_of differ) xs) is ∙ ap (λ r. r >>= λ segs. Ok (map (run_count_of differ) segs)) are.cut.whole.1 in
         let long : length values ≡ length (room_of (parts_of start)) =
-        length-map lists (run_count_of differ) ∙ ap length nests.1 ∙ count-cut segments xs ∙ ap length are.cut.in_order
+        length-map lists (run_count_of differ) ∙ ap length nests.1 ∙ length-cut segments xs ∙ ap length are.cut.in_order
         ∙ sym (as-long (λ (p : ReducePart X ℤ). p.lengths) (λ (p : ReducePart X ℤ). p.room) (parts_of start) rooms) in
         subst (λ m. RoomTold m done (room_of (parts_of start)) (room_of (parts_of end))) (sym meaning)
         (subst (λ ys. RoomTold (Ok values) done (room_of (parts_of start)) ys) (sym rooms-are) (tells_done values (room_of (parts_of start)) long))

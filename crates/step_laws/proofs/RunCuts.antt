@@ -3,17 +3,19 @@ use Rattle.std.proofs.Common.{◌≡◌, ◌++◌, ◌+◌, ◌<◌, ◌≤◌, 
 use Rattle.std.proofs.Common.{refl, sym, ap, arith, subst, ⊎_elim}
 use Rattle.std.proofs.Common.{append_assoc, length-append, take_at, drop_at}
 use Rattle.std.proofs.lemmas.Bool.{cases_lt}
-use Rattle.std.proofs.lemmas.List.{length-drop, length-map, length-take, map-append, take-append-drop}
+use Rattle.std.proofs.lemmas.List.{length-drop, length-map, length-take, map-append, nil_from_length, take-append-drop}
 use Rattle.std.proofs.lemmas.List.Elements.{All-head, All-tail}
 use Rattle.call_laws.specs.OverRanks.{followed_by, going_on, together}
 use Rattle.cvl_base.proofs.Lists.{sum-cons}
 use Rattle.cvl_base.specs.Lists.{joined}
 use Rattle.cvl_base.specs.Nests.{cut_of}
+use Rattle.cvl_base.proofs.Nests.{length-cut}
 use Rattle.run_lengths.specs.Runs.{runs_in}
 use Rattle.run_parts.specs.Runs.{in_front_of, range_of, runs_in_part}
+use Rattle.run_parts.proofs.PartRuns.{bounds, joined-cut-all}
 use Rattle.segment_parts.specs.Reduces.{but_last, is_part}
 use Rattle.step_laws.proofs.CutBounds.{but_last-more}
-use Rattle.step_laws.proofs.Filled.{bounds, count-cut, lengths-going_on, same-front, sums-cut}
+use Rattle.step_laws.proofs.Filled.{lengths-going_on, same-front, sums-cut}
 use Rattle.step_laws.proofs.RunsTogether.{GoOn, behind-parted, last_list, last_of, last_of-append, run_part, runs_on}
 use Rattle.step_laws.specs.ReduceParts.{ReducePart, elements_of, segments_in}
 use Rattle.step_laws.specs.RunParts.{AreAt, HasFirsts, RunPart, parts_of}
@@ -21,12 +23,6 @@ use Rattle.step_laws.specs.RunParts.{AreAt, HasFirsts, RunPart, parts_of}
 module _ {X : Type 0} where
   abbrev pub IsPart : ReducePart X ℤ → Type 0
   IsPart p = IsTrue (is_part p.head p.lengths (length p.elements))
-
-  joined-cut-all : (lengths : List ℕ) (xs : List X) → length xs ≤ sum lengths → joined (cut_of lengths xs) ≡ xs
-  joined-cut-all [] [] few = refl
-  joined-cut-all [] (x ∷ xs) few = absurd (omega (arith, few))
-  joined-cut-all (n ∷ lengths) xs few =
-      ap (λ ys. take n xs ++ ys) (joined-cut-all lengths (drop n xs) (omega (arith, few, sum-cons n lengths, length-drop n xs))) ∙ take-append-drop n xs
 
   -- a part's head and what it has of its segments are its elements
   pub elements-are : (p : ReducePart X ℤ) → IsPart p → (segments_in p).0 ++ joined (segments_in p).1 ≡ p.elements
@@ -41,10 +37,6 @@ module _ {X : Type 0} where
   last-cut l [] xs few = omega (arith, few, length-take l xs, sum-cons l [])
   last-cut l (l2 ∷ lengths) xs few =
       omega (arith, but_last-more l l2 lengths, length-drop l xs, last-cut l2 lengths (drop l xs) (omega (arith, few, length-drop l xs, sum-cons l (l2 ∷ lengths))))
-
-  empty : (xs : List X) → length xs ≡ 0 → xs ≡ []
-  empty [] none = refl
-  empty (x ∷ xs) none = absurd (omega (arith, none))
 
   only-some : (head l : ℕ) (ls : List ℕ) (els more : List X) → is_part head (l ∷ ls) (length els) ≡ true
       → (length els < head + sum (l ∷ ls) → head + sum (but_last (l ∷ ls)) < length els)
@@ -61,7 +53,7 @@ module _ {X : Type 0} where
       let nothing : length (last_list (cut_of (l ∷ ls) xs)) ≡ 0 = ap length none in
       ⊎_elim
       (λ (short : length els < head + sum (l ∷ ls)). absurd (omega (arith, firsts short, last, nothing, long)))
-      (λ (whole : head + sum (l ∷ ls) ≤ length els). empty more (omega (arith, total, grown, cut, long, whole)))
+      (λ (whole : head + sum (l ∷ ls) ≤ length els). nil_from_length more (omega (arith, total, grown, cut, long, whole)))
       (cases_lt (length els) (head + sum (l ∷ ls)))
 
   more-go_on : (ls : List ℕ) (head : ℕ) (els : List X) → is_part head ls (length els) ≡ true
@@ -73,7 +65,7 @@ module _ {X : Type 0} where
       let next = together parts in
       let own = going_on (take l (drop head els)) (cut_of ls (drop l (drop head els))) next.0 in
       let long : length (map length own) ≡ length (l ∷ ls) =
-      length-map own length ∙ (lengths-going_on (take l (drop head els)) (cut_of ls (drop l (drop head els))) next.0).1 ∙ count-cut (l ∷ ls) (drop head els) in
+      length-map own length ∙ (lengths-going_on (take l (drop head els)) (cut_of ls (drop l (drop head els))) next.0).1 ∙ length-cut (l ∷ ls) (drop head els) in
       let halves = same-front (map length own) (map length next.1) (l ∷ ls) others long (sym (map-append length own next.1) ∙ same) in
       ((λ some none. only-some head l ls els next.0 is first halves.0 none), rest halves.1)
 

@@ -1,8 +1,8 @@
 -- The numbers of the runs that parts have together: each part's own, the last of which goes on in later parts.
-use Rattle.std.proofs.Common.{zip, ◌≡◌, ◌++◌, ◌+◌, ◌-◌, ◌<◌, ◌≤◌, ◌∙◌, ℕ, suc, ℤ, pos, Bool, true, false, List, [], ◌∷◌, length, map, sum, refl, sym, ap, arith, subst, length-append, if◌then◌else◌}
-use Rattle.std.proofs.lemmas.Bool.{cases_lt, le-ltb, lt-ltb}
+use Rattle.std.proofs.Common.{zip, ◌≡◌, ◌++◌, ◌+◌, ◌-◌, ◌≤◌, ◌∙◌, ℕ, suc, ℤ, pos, List, [], ◌∷◌, length, map, sum, refl, sym, ap, arith, length-append, if◌then◌else◌}
+use Rattle.std.proofs.lemmas.Bool.{le-ltb, lt-ltb}
 use Rattle.std.proofs.lemmas.Int.{ints, int_wrap_fits}
-use Rattle.std.proofs.lemmas.List.{append-nil, map-append}
+use Rattle.std.proofs.lemmas.List.{map-append}
 use Rattle.std.specs.Int.{w32}
 use Rattle.cvl_base.proofs.Lists.{sum-cons}
 use Rattle.cvl_base.specs.Folds.{scan_of}
@@ -10,8 +10,9 @@ use Rattle.cvl_base.specs.Integers.{sum_of}
 use Rattle.cvl_base.specs.Limits.{most_places}
 use Rattle.cvl_base.specs.Lists.{joined}
 use Rattle.operators.proofs.FoldLaws.{scan_of-cons}
-use Rattle.call_laws.specs.OverRanks.{elements_of, followed_by, going_on, together}
-use Rattle.run_lengths.specs.Runs.{its_length, its_start, numbers_from}
+use Rattle.call_laws.specs.OverRanks.{going_on, together}
+use Rattle.run_lengths.specs.Runs.{its_start, numbers_from}
+use Rattle.run_lengths.proofs.Fronts.{numbers-append}
 use Rattle.run_parts.specs.Places.{last_or, next_begin, run_behinds}
 use Rattle.run_parts.specs.Runs.{lengths_of_runs}
 use Rattle.segment_parts.specs.Reduces.{join_last}
@@ -22,10 +23,6 @@ pub places-add : (a b : ℕ) → a + b ≤ most_places → sum_of (pos a) (pos b
 places-add a b few = int_wrap_fits w32 (pos (a + b)) (omega (arith, ints, few))
 
 module _ {X : Type 0} where
-  pub lengths-are : (place : ℕ) (runs : List (List X)) → numbers_from its_length place runs ≡ lengths_of_runs runs
-  lengths-are place [] = refl
-  lengths-are place (run ∷ runs) = ap (λ ns. pos (length run) ∷ ns) (lengths-are (place + length run) runs)
-
   -- the starts are the scan of the lengths
   pub starts-scanned : (begin : ℕ) (runs : List (List X)) → begin + length (joined runs) ≤ most_places
       → scan_of sum_of (pos begin) (lengths_of_runs runs) ≡ numbers_from its_start begin runs
@@ -38,7 +35,7 @@ module _ {X : Type 0} where
 
   -- ---- the last of some runs goes on
 
-  long-going_on : (run : List X) (runs : List (List X)) (more : List X) → length (joined (going_on run runs more)) ≡ length (joined (run ∷ runs)) + length more
+  pub long-going_on : (run : List X) (runs : List (List X)) (more : List X) → length (joined (going_on run runs more)) ≡ length (joined (run ∷ runs)) + length more
   long-going_on run [] more =
       omega (arith, length-append (run ++ more) [], length-append run [], length-append run more)
   long-going_on run (next ∷ runs) more =
@@ -55,15 +52,6 @@ module _ {X : Type 0} where
   starts-going_on : (place : ℕ) (run : List X) (runs : List (List X)) (more : List X) → numbers_from its_start place (going_on run runs more) ≡ numbers_from its_start place (run ∷ runs)
   starts-going_on place run [] more = refl
   starts-going_on place run (next ∷ runs) more = ap (λ ns. pos place ∷ ns) (starts-going_on (place + length run) next runs more)
-
-  numbers-append : (number : ℕ → ℕ → ℤ) (place : ℕ) (runs others : List (List X))
-      → numbers_from number place (runs ++ others) ≡ numbers_from number place runs ++ numbers_from number (place + length (joined runs)) others
-  numbers-append number place [] others = let same : place ≡ place + 0 = omega arith in ap (λ p. numbers_from number p others) same
-  numbers-append number place (run ∷ runs) others =
-      let long : length (joined (run ∷ runs)) ≡ length run + length (joined runs) = length-append run (joined runs) in
-      let same : place + length run + length (joined runs) ≡ place + length (joined (run ∷ runs)) = omega (arith, long) in
-      ap (λ ns. number place (length run) ∷ ns)
-      (numbers-append number (place + length run) runs others ∙ ap (λ p. numbers_from number (place + length run) runs ++ numbers_from number p others) same)
 
   -- ---- what each part puts
 
@@ -171,7 +159,7 @@ module _ {X : Type 0} where
 
   -- ---- how many runs there are
 
-  length-going_on : (run : List X) (runs : List (List X)) (more : List X) → length (going_on run runs more) ≡ length (run ∷ runs)
+  pub length-going_on : (run : List X) (runs : List (List X)) (more : List X) → length (going_on run runs more) ≡ length (run ∷ runs)
   length-going_on run [] more = refl
   length-going_on run (next ∷ runs) more = ap suc (length-going_on next runs more)
 

@@ -1,8 +1,8 @@
 -- Runs by steps: the front of the room has those of the whole.
-use Rattle.std.proofs.Common.{◌≡◌, ◌≢◌, ◌++◌, ◌+◌, ◌-◌, ◌<◌, ◌≤◌, ◌∙◌, ℕ, suc, ℤ, pos, Bool, List, [], ◌∷◌, length, map, take, drop, sum, All, Ok, Err, refl, sym, ap, arith, subst, ⊎_elim}
+use Rattle.std.proofs.Common.{◌≡◌, ◌≢◌, ◌++◌, ◌+◌, ◌<◌, ◌≤◌, ◌∙◌, ℕ, ℤ, Bool, List, [], ◌∷◌, length, map, take, drop, sum, All, Ok, Err, refl, sym, ap, arith, subst, ⊎_elim}
 use mathlib.Core.List.{map-map}
 use Rattle.std.proofs.lemmas.Bool.{cases_lt, le-ltb, lt-ltb}
-use Rattle.std.proofs.lemmas.List.{length-map, take-append-drop}
+use Rattle.std.proofs.lemmas.List.{take-append-drop}
 use Rattle.std.specs.List.{AllZip}
 use Rattle.c_calls.specs.Calls.{by_segments, lengths_of}
 use Rattle.c_calls.specs.Told.{FrontTold, Told, at_front, done, front_of}
@@ -16,20 +16,18 @@ use Rattle.cvl_base.specs.Limits.{most_places}
 use Rattle.cvl_base.specs.Lists.{joined}
 use Rattle.part_records.specs.Places.{fits_room, layout_of}
 use Rattle.run_lengths.specs.Runs.{its_length, its_start, numbers_from, seg_run_numbers_of}
+use Rattle.run_lengths.proofs.Fronts.{length-numbers}
 use Rattle.run_parts.specs.Places.{RunLayout, run_layout_by, run_layout_or, runs_fitted}
 use Rattle.run_parts.specs.Runs.{lengths_of_runs}
+use Rattle.run_parts.proofs.Written.{lengths-are}
 use Rattle.step_laws.proofs.Packed.{ends, has-room, joined-ranges, length-ranges, places-on}
 use Rattle.step_laws.proofs.Parted.{alike, alike_where, each-alike, keeps}
-use Rattle.step_laws.proofs.RunNumbers.{counts-together, goes_on_behind, lengths-are, lengths-together, starts-together}
+use Rattle.step_laws.proofs.RunNumbers.{counts-together, goes_on_behind, lengths-together, starts-together}
 use Rattle.step_laws.proofs.RunsPut.{Ready, behinds-few, lengths-all, lengths-put, put_lengths, put_starts, starts-all, starts-put}
-use Rattle.step_laws.proofs.RunsTold.{Fits, Tells, all-fit, all-runs, begins-told, counts-are, few-elements, few-runs, laid, laid-out, lengths-told, meaning, ns, qs, size-all, tells, xs}
-use Rattle.step_laws.specs.PackSteps.{SameBehind, ranges_of, ranges_on}
-use Rattle.step_laws.specs.RunParts.{AreRunPartsOf, FillsAlone, HaveMemory, HaveRanges, KnowBehinds, RangesAlone, RunPart, parts_of, places_of, rooms_of}
+use Rattle.step_laws.proofs.RunsTold.{Fits, all-fit, all-runs, begins-told, counts-are, few-elements, laid, laid-out, lengths-told, meaning, ns, qs, size-all, tells, xs}
+use Rattle.step_laws.specs.PackSteps.{SameBehind, ranges_of}
+use Rattle.step_laws.specs.RunParts.{AreRunPartsOf, HaveMemory, HaveRanges, KnowBehinds, RangesAlone, RunPart, places_of, rooms_of}
 use Rattle.step_laws.specs.RunSteps.{LaysOutRuns, PutsLengths, PutsStarts, TellsRuns}
-
-numbers-long : {X : Type 0} (number : ℕ → ℕ → ℤ) (place : ℕ) (runs : List (List X)) → length (numbers_from number place runs) ≡ length runs
-numbers-long number place [] = refl
-numbers-long number place (run ∷ runs) = ap suc (numbers-long number (place + length run) runs)
 
 module _ {X : Type 0} (differ : X → X → Bool) (lengths : List ℤ) (segments : List ℕ) (start told : List (RunPart X)) (is : lengths_of lengths ≡ Ok segments)
     (are : AreRunPartsOf segments start) (memory : HaveMemory start) (before now : RunLayout) (room : List ℤ)
@@ -58,7 +56,7 @@ module _ {X : Type 0} (differ : X → X → Bool) (lengths : List ℤ) (segments
     now-is = lays.1 ∙ ap (run_layout_or before) known
 
   many : (number : ℕ → ℕ → ℤ) → length (numbers_from number 0 (together parts).1) ≡ sum counts
-  many number = numbers-long number 0 (together parts).1 ∙ counts-together parts
+  many number = length-numbers number 0 (together parts).1 ∙ counts-together parts
 
   pub too_short : (number : ℕ → ℕ → ℤ) (status : CvlStatus) → LaysOutRuns (length whole) told (length room) status before now → status ≢ done
       → FrontTold (by_segments lengths (seg_run_numbers_of number differ whole)) status (front_of room before.layout.total) (front_of room now.layout.total)

@@ -1,37 +1,24 @@
 -- Counts of runs by steps: those that begin in each part's segments, the last one with those that begin behind the part.
-use Rattle.std.proofs.Common.{◌≡◌, ◌++◌, ◌+◌, ◌<◌, ◌≤◌, ◌∙◌, ◌||◌, not, ℕ, suc, ℤ, pos, Bool, true, Option, None, Some, List, [], ◌∷◌, length, map, take, drop, sum, zip, All, Ok, refl, sym}
-use Rattle.std.proofs.Common.{ap, arith, subst, if◌then◌else◌, nat_lt}
-use Rattle.std.proofs.Common.{append_assoc, length-append, take_at, drop_at}
-use Rattle.std.proofs.lemmas.Bool.{le-ltb, lt-ltb}
-use Rattle.std.proofs.lemmas.List.{append-nil, length-map, map-append}
+use Rattle.std.proofs.Common.{◌≡◌, ◌++◌, ◌+◌, ◌≤◌, ◌∙◌, ℕ, ℤ, pos, Bool, true, Option, None, Some, List, [], ◌∷◌, length, map, sum, refl, sym}
+use Rattle.std.proofs.Common.{ap, arith, if◌then◌else◌, nat_lt}
+use Rattle.std.proofs.Common.{length-append}
+use Rattle.std.proofs.lemmas.Bool.{lt-ltb}
+use Rattle.std.proofs.lemmas.List.{append-nil, map-append}
 use Rattle.call_laws.specs.OverRanks.{followed_by, going_on, together}
 use Rattle.cvl_base.proofs.Lists.{sum-cons}
 use Rattle.cvl_base.specs.Integers.{sum_of}
 use Rattle.cvl_base.specs.Limits.{most_places}
 use Rattle.cvl_base.specs.Lists.{joined}
-use Rattle.run_lengths.specs.Runs.{run_count_of, runs_in, runs_of}
-use Rattle.segment_parts.specs.Behinds.{behind_each, goes_on}
+use Rattle.run_lengths.specs.Runs.{run_count_of}
+use Rattle.segment_parts.specs.Behinds.{goes_on}
 use Rattle.segment_parts.specs.Reduces.{join_last}
-use Rattle.step_laws.proofs.RunNumbers.{places-add}
-use Rattle.step_laws.proofs.RunsTogether.{GoOn, all-parted, last_list, last_of, last_of-append, most-parted, parted, parted-append}
+use Rattle.step_laws.proofs.RunNumbers.{length-going_on, long-going_on, places-add}
+use Rattle.step_laws.proofs.RunsTogether.{GoOn, all-parted, last_list, last_of, last_of-append, long-joined, most-parted, parted, parted-append}
 
 module _ {X : Type 0} where
-  length-going : (run : List X) (runs : List (List X)) (more : List X) → length (going_on run runs more) ≡ length (run ∷ runs)
-  length-going run [] more = refl
-  length-going run (next ∷ runs) more = ap suc (length-going next runs more)
-
-  length-followed : (front : List X) (runs : List (List X)) (behind : List X × List (List X)) → length (followed_by front runs behind).1 ≡ length runs + length behind.1
+  pub length-followed : (front : List X) (runs : List (List X)) (behind : List X × List (List X)) → length (followed_by front runs behind).1 ≡ length runs + length behind.1
   length-followed front [] behind = omega arith
-  length-followed front (run ∷ runs) behind = omega (arith, length-append (going_on run runs behind.0) behind.1, length-going run runs behind.0)
-
-  long-joined : (xs ys : List (List X)) → length (joined (xs ++ ys)) ≡ length (joined xs) + length (joined ys)
-  long-joined [] ys = omega arith
-  long-joined (x ∷ xs) ys = omega (arith, long-joined xs ys, length-append x (joined (xs ++ ys)), length-append x (joined xs))
-
-  long-going : (run : List X) (runs : List (List X)) (more : List X) → length (joined (going_on run runs more)) ≡ length (joined (run ∷ runs)) + length more
-  long-going run [] more = omega (arith, length-append (run ++ more) [], length-append run [], length-append run more)
-  long-going run (next ∷ runs) more =
-      omega (arith, long-going next runs more, length-append run (joined (going_on next runs more)), length-append run (joined (next ∷ runs)))
+  length-followed front (run ∷ runs) behind = omega (arith, length-append (going_on run runs behind.0) behind.1, length-going_on run runs behind.0)
 
 module _ {X : Type 0} (differ : X → X → Bool) where
   -- how many runs begin in a list behind an element
@@ -111,7 +98,7 @@ module _ {X : Type 0} (differ : X → X → Bool) where
       let rest = goes-on next ps (omega (arith, few, sized)) in
       let starts : nat_lt 0 (length segments) ≡ true = lt-ltb 0 (length segments) (omega arith) in (
         ap (λ b. if b then pos (begun_in front head) else sum_of (pos (begun_in front head)) (goes_on sum_of (pos 0) (pairs_on next ps))) starts,
-        omega (arith, rest.1, sized, length-append head (joined segments), long-joined (going_on segment others h) (together ps).1, long-going segment others h),
+        omega (arith, rest.1, sized, length-append head (joined segments), long-joined (going_on segment others h) (together ps).1, long-going_on segment others h),
       )
 
   -- what goes on behind each part, and the counts of all parts

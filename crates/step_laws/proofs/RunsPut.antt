@@ -1,39 +1,27 @@
 -- What the parts of a call on runs put into their ranges of the room.
-use Rattle.std.proofs.Common.{◌≡◌, ◌≢◌, ◌++◌, ◌+◌, ◌-◌, ◌<◌, ◌≤◌, ◌∙◌, ℕ, ℤ, pos, Bool, true, false, Option, None, Some, List, [], ◌∷◌, length, map, take, drop, sum, All, Ok, Err, refl, sym}
-use Rattle.std.proofs.Common.{ap, arith, subst, ⊎_elim}
-use Rattle.std.proofs.Common.{length-append, nat_lt}
-use mathlib.Core.List.{map-map}
-use Rattle.std.proofs.lemmas.Bool.{cases_lt, le-ltb, lt-ltb}
-use Rattle.std.proofs.lemmas.List.{drop-drop, length-map, take-append-drop}
+use Rattle.std.proofs.Common.{◌≡◌, ◌+◌, ◌-◌, ◌≤◌, ◌∙◌, ℕ, ℤ, pos, List, [], ◌∷◌, length, map, take, sum, All, Ok, refl}
+use Rattle.std.proofs.Common.{ap, arith, subst}
+use Rattle.std.proofs.Common.{nat_lt}
+use Rattle.std.proofs.lemmas.Bool.{le-ltb}
 use Rattle.std.proofs.lemmas.List.Elements.{All-cons, All-nil}
-use Rattle.std.specs.List.{AllZip}
-use Rattle.c_calls.specs.Calls.{by_segments, in_limit, lengths_of}
-use Rattle.c_calls.specs.Told.{FrontTold, Told, at_front, done, front_of}
-use Rattle.c_calls.specs.declared.status.CvlStatus.{CvlStatus}
+use Rattle.c_calls.specs.Calls.{in_limit}
+use Rattle.c_calls.specs.Told.{Told}
 use Rattle.call_laws.specs.OverRanks.{together}
 use Rattle.cvl_base.specs.declared.fault.FaultNo.TheVariants as no
 use Rattle.cvl_base.specs.Faults.{fault}
 use Rattle.cvl_base.specs.Folds.{scan_of}
-use Rattle.cvl_base.specs.Gives.{◌>>=◌, fault_if}
+use Rattle.cvl_base.specs.Gives.{fault_if}
 use Rattle.cvl_base.specs.Integers.{sum_of}
 use Rattle.cvl_base.specs.Limits.{most_places}
 use Rattle.cvl_base.specs.Lists.{joined}
 use Rattle.cvl_base.proofs.Lists.{sum-cons}
-use Rattle.part_records.specs.Places.{Layout, fits_room, layout_of}
-use Rattle.run_lengths.specs.Runs.{its_length, its_start, numbers_from, seg_run_numbers_of}
-use Rattle.run_parts.specs.Places.{RunLayout, run_layout_by, run_layout_or, runs_fitted}
-use Rattle.run_parts.specs.Puts.{put_lengths_of, put_starts_of}
 use Rattle.run_parts.specs.Runs.{lengths_of_runs}
 use Rattle.segment_parts.specs.Reduces.{join_last}
-use Rattle.step_laws.proofs.Answered.{numbered, within}
-use Rattle.step_laws.proofs.Packed.{ends, has-room, joined-ranges, length-ranges, places-on}
-use Rattle.step_laws.proofs.Parted.{alike, alike_where, each-alike, keeps}
-use Rattle.step_laws.proofs.RunNumbers.{begins_by_parts, counts-together, goes_on_behind, lengths-are, lengths-together, lengths_by_parts, size-together, size_of, size_of_all}
-use Rattle.step_laws.proofs.RunNumbers.{starts-scanned, starts-together, starts_by_parts}
-use Rattle.step_laws.proofs.RunsTold.{Tells, all-fit, all-runs, begins-told, few-elements, few-runs, laid, laid-out, lengths-told, meaning, ns, qs, size-all, tells, xs}
-use Rattle.step_laws.specs.PackSteps.{SameBehind, ranges_of, ranges_on}
-use Rattle.step_laws.specs.RunParts.{AreRunPartsOf, FillsAlone, HaveMemory, HaveRanges, KnowBehinds, RangesAlone, RunPart, parts_of, rooms_of}
-use Rattle.step_laws.specs.RunSteps.{LaysOutRuns, PutsLengths, PutsStarts, TellsRuns}
+use Rattle.step_laws.proofs.Answered.{within}
+use Rattle.step_laws.proofs.RunNumbers.{begins_by_parts, goes_on_behind, lengths_by_parts, size-together, size_of, size_of_all}
+use Rattle.step_laws.proofs.RunNumbers.{starts-scanned, starts_by_parts}
+use Rattle.step_laws.specs.RunParts.{RunPart}
+use Rattle.step_laws.specs.RunSteps.{PutsLengths, PutsStarts}
 
 -- ---- what a part puts
 

@@ -1,9 +1,10 @@
 -- The runs that begin in each part of a segmented vector, put together, are those of all segments.
-use Rattle.std.proofs.Common.{⊎_elim, ◌≡◌, ◌++◌, ◌+◌, ◌<◌, ◌≤◌, ◌∙◌, ℕ, suc, Bool, true, false, List, [], ◌∷◌, length, drop, if◌then◌else◌, refl, sym, ap, arith, subst, append_assoc}
+use Rattle.std.proofs.Common.{⊎_elim, ◌≡◌, ◌++◌, ◌+◌, ◌<◌, ◌≤◌, ◌∙◌, suc, Bool, true, false, List, [], ◌∷◌, length, drop, if◌then◌else◌, refl, sym, ap, arith, subst, append_assoc}
 use Rattle.std.proofs.Common.{append-nil, length-append, Option, Some, None}
 use Rattle.std.proofs.lemmas.Bool.{cases_lt}
 use Rattle.call_laws.specs.OverRanks.{followed_by, going_on, together}
 use Rattle.call_laws.specs.RunsInParts.{onto_last}
+use Rattle.call_laws.proofs.RunsInParts.{runs_in-append}
 use Rattle.run_lengths.specs.Runs.{onto_first, runs_from, runs_in, runs_of}
 use Rattle.run_parts.specs.Runs.{runs_behind}
 use Rattle.cvl_base.specs.Lists.{joined}
@@ -77,7 +78,7 @@ module _ {X : Type 0} where
   followed-twice front [] next (other ∷ others) behind = refl
   followed-twice front (run ∷ runs) next others behind = twice-some front (run ∷ runs) next others behind (omega arith)
 
-long-joined : {X : Type 0} (xs ys : List (List X)) → length (joined (xs ++ ys)) ≡ length (joined xs) + length (joined ys)
+pub long-joined : {X : Type 0} (xs ys : List (List X)) → length (joined (xs ++ ys)) ≡ length (joined xs) + length (joined ys)
 long-joined [] ys = omega arith
 long-joined (x ∷ xs) ys = omega (arith, long-joined xs ys, length-append x (joined (xs ++ ys)), length-append x (joined xs))
 
@@ -194,12 +195,6 @@ module _ {X : Type 0} (differ : X → X → Bool) where
       ∙ last-goes_on front (runs ++ runs_of differ segment) (last_of last segment) other others more only
       ∙ ap (λ rs. (front, rs)) (append_assoc runs (runs_of differ segment) (runs_in differ (going_on other others more)))
 
-  runs_in-append : (before behind : List (List X)) → runs_in differ (before ++ behind) ≡ runs_in differ before ++ runs_in differ behind
-  runs_in-append [] behind = refl
-  runs_in-append (segment ∷ before) behind =
-      ap (λ runs. runs_of differ segment ++ runs) (runs_in-append before behind)
-      ∙ sym (append_assoc (runs_of differ segment) (runs_in differ before) (runs_in differ behind))
-
   -- put together, they are the runs of the segments that the parts have together
   pub together-runs : (front : Option X) (parts : List (List X × List (List X))) → GoOn parts
       → together (runs_on front parts) ≡ ((parted front (together parts).0).0, (parted front (together parts).0).1 ++ runs_in differ (together parts).1)
@@ -226,7 +221,7 @@ module _ {X : Type 0} (differ : X → X → Bool) where
       ∙ followed-more p.0 own behind.0 behind.1 q
       ∙ ap (λ (t : List X × List (List X)). (t.0, t.1 ++ q)) (last-goes_on p.0 p.1 (last_of front head) segment others h (go_on.0 (omega arith)))
       ∙ ap (λ rs. (p.0, rs)) (append_assoc p.1 (runs_in differ (going_on segment others h)) q
-      ∙ ap (λ rs. p.1 ++ rs) (sym (runs_in-append (going_on segment others h) (together parts).1)))
+      ∙ ap (λ rs. p.1 ++ rs) (sym (runs_in-append differ (going_on segment others h) (together parts).1)))
 
   -- ---- how many elements and runs there are
 

@@ -1,15 +1,14 @@
 -- What the parts of a call on runs tell, and where their runs go.
-use Rattle.std.proofs.Common.{◌≡◌, ◌++◌, ◌+◌, ◌-◌, ◌<◌, ◌≤◌, ◌∙◌, ◌||◌, ◌&&◌, ◌==◌, not, ℕ, suc, ℤ, pos, Bool, true, false, Option, None, Some, List, [], ◌∷◌, length, map, take, drop, sum}
+use Rattle.std.proofs.Common.{◌≡◌, ◌++◌, ◌+◌, ◌-◌, ◌≤◌, ◌∙◌, ◌||◌, ◌&&◌, ◌==◌, not, ℕ, suc, ℤ, pos, Bool, Option, None, List, [], ◌∷◌, length, map, take, drop, sum}
 use Rattle.std.proofs.Common.{zip, All, Ok, refl, sym, ap, arith, subst}
-use Rattle.std.proofs.Common.{length-append, take_at, length-drop, nat_lt}
+use Rattle.std.proofs.Common.{length-append, take_at, length-drop}
 use mathlib.Core.List.{map-map}
 use Rattle.std.proofs.lemmas.Bool.{eq-eqb, le-ltb}
 use Rattle.std.proofs.lemmas.List.{length-map}
 use Rattle.std.proofs.lemmas.List.Elements.{All-cons, All-head, All-nil, All-tail}
 use Rattle.std.specs.List.{AllZip}
 use Rattle.c_calls.specs.Calls.{by_segments, lengths_of}
-use Rattle.c_calls.specs.Told.{FrontTold, Told, at_front, done, front_of}
-use Rattle.c_calls.specs.declared.status.CvlStatus.{CvlStatus}
+use Rattle.c_calls.specs.Told.{FrontTold, Told, front_of}
 use Rattle.call_laws.specs.OverRanks.{together}
 use Rattle.cvl_base.proofs.Lists.{sum-cons}
 use Rattle.cvl_base.proofs.Nests.{lengths-cut}
@@ -28,7 +27,7 @@ use Rattle.step_laws.proofs.Answered.{within}
 use Rattle.step_laws.proofs.Packed.{ends}
 use Rattle.step_laws.proofs.Parted.{alike, alike_where, some-fewer}
 use Rattle.step_laws.proofs.RunCuts.{IsPart, elements-are, go_on, own_runs, runs-told}
-use Rattle.step_laws.proofs.RunNumbers.{HaveElements, begins_and_ends, begins_by_parts, behinds-together, counts-together, goes_on_behind, last-ends, size_of, size_of_all, zipped-ends}
+use Rattle.step_laws.proofs.RunNumbers.{HaveElements, begins_by_parts, behinds-together, goes_on_behind, last-ends, size_of, size_of_all, zipped-ends}
 use Rattle.step_laws.proofs.RunsTogether.{most-part, parted, run_part, runs_on, size-part, some-part, together-runs, last_of}
 use Rattle.step_laws.proofs.SegmentLengths.{are_lengths, few-of, nested, some-less}
 use Rattle.step_laws.specs.ReduceParts.{ReducePart, elements_of, segments_in}

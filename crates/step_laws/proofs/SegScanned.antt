@@ -8,7 +8,7 @@ use Rattle.std.proofs.lemmas.Option.{none-some, same_Some}
 use Rattle.std.specs.List.{AllPass, AllZip}
 use Rattle.std.specs.Result.{result_ok}
 use Rattle.call_laws.proofs.OverRanks.{joined-together, seg_scan-over_ranks}
-use Rattle.call_laws.specs.OverRanks.{followed_by, going_on, scans_over_ranks, together}
+use Rattle.call_laws.specs.OverRanks.{scans_over_ranks, together}
 use Rattle.cvl_base.proofs.Elementwise.{if_as_long-fits}
 use Rattle.cvl_base.proofs.Nests.{joined-cut, length-cut, lengths-cut}
 use Rattle.cvl_base.specs.declared.fault.Fault.{Fault}
@@ -30,25 +30,18 @@ use Rattle.step_laws.proofs.Answered.{fills, is_done, tells_done, within}
 use Rattle.step_laws.proofs.Parted.{alike, alike_where, all-parts, as-long, keeps, some-fewer}
 use Rattle.step_laws.proofs.PieceScans.{all_scans, befores, carries-cut, scans-cut, scans_in, tells}
 use Rattle.step_laws.proofs.SegmentLengths.{are_lengths, few-of, nested}
+use Rattle.step_laws.proofs.RunsCounted.{length-followed}
 
 -- ---- how many segments pieces have
 
 module _ {X : Type 0} where
-  count-going_on : (segment : List X) (others : List (List X)) (more : List X) → length (going_on segment others more) ≡ 1 + length others
-  count-going_on segment [] more = refl
-  count-going_on segment (other ∷ others) more = omega (arith, count-going_on other others more)
-
-  count-followed : (front : List X) (segments : List (List X)) (behind : List X × List (List X)) → length (followed_by front segments behind).1 ≡ length segments + length behind.1
-  count-followed front [] behind = omega arith
-  count-followed front (segment ∷ others) behind = omega (arith, length-append (going_on segment others behind.0) behind.1, count-going_on segment others behind.0)
-
   -- no piece has more whole segments than all have together
   fewer_lengths : (most : ℕ) (ps : List (Piece X)) → length (together (map segments_in ps)).1 ≤ most → All (λ p. length p.lengths ≤ most) ps
   fewer_lengths most [] all = All-nil (λ p. length p.lengths ≤ most)
   fewer_lengths most (p ∷ ps) all =
       let segments = segments_in p in let behind = together (map segments_in ps) in
       let whole = cut_of p.lengths (drop p.head p.elements) in
-      let count = count-followed segments.0 segments.1 behind in
+      let count = length-followed segments.0 segments.1 behind in
       let own : length segments.1 ≡ length whole + length (if_some (tail_of p)) = length-append whole (if_some (tail_of p)) in
       All-cons (λ q. length q.lengths ≤ most) p ps (omega (arith, own, length-cut p.lengths (drop p.head p.elements), count, all)) (fewer_lengths most ps (omega (arith, count, all)))
 

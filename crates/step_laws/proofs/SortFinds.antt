@@ -1,9 +1,8 @@
 -- The passes that the parts' bits say leave out only digits that all keys have in common.
-use Rattle.std.proofs.Common.{◌≡◌, ◌≢◌, ◌∙◌, ℕ, ◌+◌, ◌/◌, ◌%◌, ◌^◌, ◌<◌, ◌==◌, ◌||◌, ℤ, Bool, true, false, cond, not, All, List, ap, arith, eqb, length, map, Ok, refl, sym}
-use Rattle.std.proofs.Common.{⊎_elim, zero, suc, ◌*◌}
+use Rattle.std.proofs.Common.{◌≡◌, ◌∙◌, ℕ, ◌+◌, ◌/◌, ◌%◌, ◌^◌, ◌<◌, ◌==◌, ◌||◌, ℤ, Bool, true, false, cond, not, All, List, ap, arith, eqb, length, map, Ok, refl, sym}
+use Rattle.std.proofs.Common.{zero, suc, ◌*◌}
 use Rattle.std.specs.List.{AllPass, AllZip}
-use Rattle.std.proofs.lemmas.Bool.{true≢false}
-use Rattle.std.proofs.lemmas.Bool.Decides.{eqb_tells}
+use Rattle.std.proofs.lemmas.Bool.{eqb-true, true≢false}
 use Rattle.std.proofs.lemmas.List.{length-map}
 use Rattle.std.proofs.lemmas.Nat.{mod_below, pow_pos}
 use mathlib.Core.List.{map-map}
@@ -50,13 +49,6 @@ shared_if : (a b : Bool) → (not a || b) ≡ false → a ≡ true
 shared_if true b is = refl
 shared_if false b is = absurd (true≢false is)
 
-same_if : (m n : ℕ) → eqb m n ≡ true → m ≡ n
-same_if m n is =
-    ⊎_elim
-    (λ (t : (eqb m n ≡ true) × (m ≡ n)). t.1)
-    (λ (t : (eqb m n ≡ false) × (m ≢ n)). absurd (true≢false (sym is ∙ t.0)))
-    (eqb_tells m n)
-
 -- ---- what the parts tell is told of the whole
 
 module _ (start left : List (Part ℤ (ℤ × ℤ) ℤ)) (numbers : AllPass is_number (elements_of start)) (zipped : AllZip TellsBits start left) where
@@ -95,6 +87,6 @@ module _ (start : List (Part ℤ (ℤ × ℤ) ℤ)) (bits : ℕ) (numbers : AllP
       let is : bits_of (is_made alls anys) ≡ bits = cc in
       let not_made : is_made alls anys pass ≡ false = sym (bit_is (is_made alls anys) pass below) ∙ ap (λ n. is_set n pass) is ∙ not_set in
       let same : digit_of_pass pass (int_reduce_of And alls) ≡ digit_of_pass pass (int_reduce_of Ior anys) =
-      same_if _ _ (shared_if (is_shared alls anys pass) _ not_made) in
+      eqb-true _ _ (shared_if (is_shared alls anys pass) _ not_made) in
       shared (elements_of start) pass numbers
       (ap (digit_of_pass pass) (sym in_all) ∙ same ∙ ap (digit_of_pass pass) in_any)

@@ -16,13 +16,11 @@ use Rattle.call_laws.proofs.FirstSent.{sender-names, sender-none, senders-ranges
 use Rattle.first_senders.specs.FirstSenders.{first_sender, first_senders, sender_or_none}
 use Rattle.orders.proofs.Ranks.{int_order, length-by_key, place_found}
 use Rattle.orders.specs.Orders.{by_key, order_of, rank_at, rank_of}
+use Rattle.orders.proofs.TheOrder.{length-order}
 use Rattle.part_calls.specs.SenderRanges.{counted_senders, senders_range_of}
 use Rattle.step_laws.specs.Parts.{Part, room_of}
 use Rattle.step_laws.specs.SortParts.{places_from}
 use Rattle.step_laws.specs.SortSteps.{FindsPlaces}
-
-pub length-order : (keys : List ℤ) → length (order_of keys) ≡ length keys
-length-order keys = length-map (by_key keys) (λ p. p.0) ∙ length-by_key keys int_order
 
 pub length-rank : (keys : List ℤ) → length (rank_of keys) ≡ length keys
 length-rank keys = length-map (enumerate_from 0 keys) (rank_at keys) ∙ length-enumerate_from 0 keys

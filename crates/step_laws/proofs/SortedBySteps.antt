@@ -12,6 +12,7 @@ use Rattle.first_senders.specs.FirstSenders.{first_senders}
 use Rattle.c_calls.specs.Calls.{in_limit}
 use Rattle.c_calls.specs.Told.{RoomTold, Told, done}
 use Rattle.orders.proofs.Ranks.{IsPermutation-stably_sorted}
+use Rattle.orders.proofs.TheOrder.{length-order}
 use Rattle.orders.specs.Orders.{order_of, rank_of, sorted_of}
 use Rattle.orders.specs.SortsByKey.{keys_by, sort_by_key_of, values_by}
 use Rattle.stable_sorts.proofs.InParts.{places_are_order}
@@ -29,7 +30,7 @@ use Rattle.step_laws.proofs.SortFinds.{common, common-below, have_common, is_set
 use Rattle.step_laws.proofs.SortPasses.{passes_sort}
 use Rattle.step_laws.proofs.SortPlaced.{all_read, each_value, keys_in, keys_placed, keys_written, length-placed, of_placed_keys, of_placed_values, values_in, values_placed}
 use Rattle.step_laws.proofs.SortPlaced.{values_written}
-use Rattle.step_laws.proofs.SortRanks.{by_ranges, length-order, length-rank, ranks_are}
+use Rattle.step_laws.proofs.SortRanks.{by_ranges, length-rank, ranks_are}
 use Rattle.step_laws.specs.Parts.{HaveRooms, Part, elements_of, room_of}
 use Rattle.step_laws.specs.SortParts.{HasBothRooms, ValuesPart, keys_of, placed_of, places_from, values_of}
 use Rattle.step_laws.specs.SortSteps.{ByPasses, FindsPasses, FindsPlaces, PlacesKeys, PlacesValues, Reads, ReadsBoth, passes_in}

@@ -7,6 +7,7 @@ use Rattle.c_calls.specs.Told.{Told, done}
 use Rattle.c_calls.specs.declared.status.CvlStatus.{CvlStatus}
 use Rattle.combine_parts.specs.OwnRooms.{OwnTold, own_room_of}
 use Rattle.combining_permutes.specs.CombiningPermutes.{combine_of, combined}
+use Rattle.combining_permutes.proofs.Joined.{combined_none}
 use Rattle.cvl_base.specs.declared.fault.Fault.{Fault}
 use Rattle.cvl_base.specs.declared.fault.FaultNo.TheVariants as no
 use Rattle.cvl_base.specs.Faults.{fault}
@@ -16,15 +17,15 @@ use Rattle.cvl_base.specs.Lists.{joined}
 use Rattle.exact_combines.specs.ExactCombines.{checked_combine_of, exact_sums_of}
 use Rattle.long_sums.specs.RoomSums.{all_fitting, all_growing, growing}
 use Rattle.permute_walks.specs.Indices.{first_outside}
+use Rattle.call_laws.proofs.TwoParts.{from_value}
 use Rattle.step_laws.proofs.Answered.{within}
 use Rattle.step_laws.proofs.ByElement.{made-elements}
 use Rattle.step_laws.proofs.CombineFaults.{outside_whole, own_fails}
-use Rattle.step_laws.proofs.LongRooms.{all_growing-grow, grows_all, none-sent}
+use Rattle.step_laws.proofs.LongRooms.{all_growing-grow, grows_all}
 use Rattle.step_laws.proofs.OwnGiven.{combine_given, passed}
 use Rattle.step_laws.proofs.PartCalls.{exactly}
 use Rattle.step_laws.proofs.Parted.{some-fewer}
 use Rattle.step_laws.proofs.PartFaults.{HasFault, no-value, of_part}
-use Rattle.step_laws.proofs.SummedInParts.{opened}
 use Rattle.step_laws.specs.CombineParts.{Block, HaveIndices, Share, elements_of, index_of, room_of}
 
 -- ---- calls that have a value have no index out of range
@@ -41,7 +42,7 @@ grown sums ys is = let grow = all_growing-grow 0 sums ys is in same_Some ys sums
 exact_inside : (source index before ys : List ℤ) → exact_sums_of source index before ≡ Ok ys → (first_outside 0 (length before) index ≡ None) × ((zs : List ℤ) × (all_growing 0 before ≡ Ok zs))
 exact_inside source index before ys is =
     let call = passed (not (length source == length index)) (fault no.LengthMismatch) (all_growing 0 before >>= λ sums. combine_of ◌+ℤ◌ source index sums) ys is in
-    let sums = opened (all_growing 0 before) (λ sums. combine_of ◌+ℤ◌ source index sums) ys call.1 in
+    let sums = from_value (all_growing 0 before) (λ sums. combine_of ◌+ℤ◌ source index sums) ys call.1 in
     let whole : combine_of ◌+ℤ◌ source index before ≡ Ok ys = ap (combine_of ◌+ℤ◌ source index) (sym (grown before sums.0 sums.1)) ∙ sums.2 in
     ((combine_given ◌+ℤ◌ source index before ys whole).0, (sums.0, sums.1))
 
@@ -55,7 +56,7 @@ pub record Fitted (source index before : List ℤ) : Type 0 where
 
 pub checked_inside : (source index before ys : List ℤ) → checked_combine_of source index before ≡ Ok ys → Fitted source index before
 checked_inside source index before ys is =
-    let sums = opened (combine_of ◌+ℤ◌ source index before) (all_fitting 0) ys is in
+    let sums = from_value (combine_of ◌+ℤ◌ source index before) (all_fitting 0) ys is in
     let both = combine_given ◌+ℤ◌ source index before sums.0 sums.1 in
     record { sums = sums.0; inside = both.0; same = both.1; values = ys; fit = sums.2 }
 
@@ -97,6 +98,6 @@ growth_fails shares k own here source index few few_places status left told fail
     let grow = all_growing-grow 0 own.room grows.0 grows.1 in
     let given : in_limit {X = ℤ} [] (in_limit own.room (exact_sums_of [] [] own.room)) ≡ Ok own.room =
     within own.room (exact_sums_of [] [] own.room) few_own
-    ∙ ap (λ r. r >>= λ sums. combine_of ◌+ℤ◌ [] [] sums) (grows_all 0 own.room grow) ∙ ap Ok (none-sent ◌+ℤ◌ 0 own.room) in
+    ∙ ap (λ r. r >>= λ sums. combine_of ◌+ℤ◌ [] [] sums) (grows_all 0 own.room grow) ∙ ap Ok (combined_none ◌+ℤ◌ 0 own.room) in
     let known : Told (Ok own.room) status own.room left = subst (λ m. Told m status own.room left) given told in
     fails known.0)

@@ -1,15 +1,15 @@
 -- Exact sums by place in 64 bits, by rooms of the parts' own and by ranges.
-use Rattle.std.proofs.Common.{◌≡◌, ◌∙◌, ◌+◌, ◌<◌, ◌≤◌, ◌+ℤ◌, ◌∷◌, ℕ, ℤ, pos, true, IsTrue, List, [], All}
-use Rattle.std.proofs.Common.{ap, arith, get_or, length, map, nat_lt, refl, replicate, subst, sym, zip, None, Result, Ok, Err}
-use Rattle.std.proofs.lemmas.List.{length-replicate}
+use Rattle.std.proofs.Common.{◌≡◌, ◌∙◌, ◌+◌, ◌≤◌, ◌+ℤ◌, ◌∷◌, ℕ, ℤ, pos, true, IsTrue, List, [], All}
+use Rattle.std.proofs.Common.{ap, arith, length, map, nat_lt, refl, replicate, subst, sym, zip, None, Result, Ok}
 use Rattle.std.proofs.lemmas.List.Elements.{All-cons, All-head, All-nil, All-replicate, All-tail}
-use Rattle.std.proofs.lemmas.Option.{none-some, same_Some}
+use Rattle.std.proofs.lemmas.Option.{same_Some}
 use Rattle.std.specs.List.{AllPass, AllZip}
 use Rattle.std.specs.Result.{result_ok}
 use Rattle.c_calls.specs.Calls.{in_limit}
 use Rattle.c_calls.specs.Told.{Told, done}
 use Rattle.combine_parts.specs.OwnRooms.{OwnTold, may_own, own_room_of}
 use Rattle.combining_permutes.specs.CombiningPermutes.{combine_of, combined}
+use Rattle.combining_permutes.proofs.Joined.{combined_none}
 use Rattle.cvl_base.proofs.Elementwise.{if_as_long-fits}
 use Rattle.cvl_base.specs.declared.fault.Fault.{Fault}
 use Rattle.cvl_base.specs.declared.fault.FaultNo.TheVariants as no
@@ -22,14 +22,15 @@ use Rattle.cvl_base.specs.Lists.{joined}
 use Rattle.exact_combines.proofs.Same.{combine_same, pairs_same}
 use Rattle.exact_combines.specs.ExactCombines.{exact_sums_of}
 use Rattle.long_sums.specs.LongLaws.{long_laws}
-use Rattle.long_sums.specs.LongSums.{is_long, long_sum_of, may_grow}
+use Rattle.long_sums.specs.LongSums.{long_sum_of, may_grow}
 use Rattle.long_sums.specs.RoomSums.{all_growing}
 use Rattle.part_calls.specs.CombineRanges.{exact_range_of, joined_and_counted}
 use Rattle.permute_walks.specs.Indices.{first_outside}
+use Rattle.call_laws.proofs.TwoParts.{from_value}
 use Rattle.step_laws.proofs.Answered.{is_given, within}
 use Rattle.step_laws.proofs.CombinedInRanges.{few-fits}
-use Rattle.step_laws.proofs.CombinedInRooms.{Joins, Made, as_many, joined_all, left_of_each, none_outside}
-use Rattle.step_laws.proofs.LongRooms.{all-joined, all-same, all_growing-grow, all_grow, all_long, grows_all, none-sent}
+use Rattle.step_laws.proofs.CombinedInRooms.{Made, as_many, joined_all, left_of_each, none_outside}
+use Rattle.step_laws.proofs.LongRooms.{all-joined, all-same, all_growing-grow, all_grow, all_long, grows_all}
 use Rattle.step_laws.proofs.OwnGiven.{passed}
 use Rattle.step_laws.proofs.Parted.{all-parts, alike_where, as-long, each-also, each-where, some-fewer}
 use Rattle.step_laws.proofs.RangesOfRoom.{ranges_joined}
@@ -39,10 +40,6 @@ use Rattle.step_laws.specs.CombineSteps.{AddsToRange, JoinsSums, MayGrow, SumsOw
 
 -- ---- sums that may grow
 
-pub opened : {X Y : Type 0} (m : Result X Fault) (next : X → Result Y Fault) (y : Y) → (m >>= next) ≡ Ok y → (x : X) × (m ≡ Ok x) × (next x ≡ Ok y)
-opened (Ok x) next y is = (x, refl, is)
-opened (Err f) next y is = absurd (none-some y (ap result_ok is))
-
 same_room : (xs ys : List ℤ) → ◌≡◌ {A = Result (List ℤ) Fault} (Ok xs) (Ok ys) → ys ≡ xs
 same_room xs ys is = sym (same_Some xs ys (ap result_ok is))
 
@@ -51,10 +48,10 @@ found : (own left : Share ℤ) → MayGrow own left → AllPass may_grow own.roo
 found own left does =
     let given = is_given (in_limit {X = ℤ} [] (in_limit own.room (exact_sums_of [] [] own.room))) own.room left.room does.0 in
     let few = passed (nat_lt most_places (length own.room)) (fault no.TooLong) (exact_sums_of [] [] own.room) left.room given in
-    let sums = opened (all_growing 0 own.room) (λ sums. combine_of ◌+ℤ◌ [] [] sums) left.room few.1 in
+    let sums = from_value (all_growing 0 own.room) (λ sums. combine_of ◌+ℤ◌ [] [] sums) left.room few.1 in
     let grow = all_growing-grow 0 own.room sums.0 sums.1 in
     let whole : ◌≡◌ {A = Result (List ℤ) Fault} (Ok own.room) (Ok left.room) =
-    ap Ok (sym (none-sent ◌+ℤ◌ 0 own.room)) ∙ ap (λ r. r >>= λ sums. combine_of ◌+ℤ◌ [] [] sums) (sym (grows_all 0 own.room grow)) ∙ few.1 in
+    ap Ok (sym (combined_none ◌+ℤ◌ 0 own.room)) ∙ ap (λ r. r >>= λ sums. combine_of ◌+ℤ◌ [] [] sums) (sym (grows_all 0 own.room grow)) ∙ few.1 in
     (grow, does.1 ∙ ap (λ zs. record own { room = zs }) (same_room own.room left.room whole))
 
 pub may_each_grow : (first before : List (Share ℤ)) → AllZip MayGrow first before → All (λ s. AllPass may_grow s.room) first

@@ -1,5 +1,5 @@
 -- Texts by steps: of integers, of booleans, and of segments.
-use Rattle.std.proofs.Common.{◌≡◌, ◌*◌, ◌≤◌, ◌∙◌, ℕ, ℤ, pos, Bool, Option, Some, None, List, [], ◌∷◌, get_or, refl, length, length-append, map, sum}
+use Rattle.std.proofs.Common.{◌≡◌, ◌*◌, ◌≤◌, ◌∙◌, ℕ, ℤ, pos, Bool, List, [], ◌∷◌, get_or, length, map, sum}
 use Rattle.std.proofs.Common.{Result, Ok, sym, ap, arith, All, nat_lt, unsigned_abs, option_map, position}
 use mathlib.Core.List.{map-map}
 use Rattle.std.proofs.lemmas.List.{length-map}
@@ -8,8 +8,6 @@ use Rattle.std.proofs.Math.Nat.{mul-le-mul_left}
 use Rattle.std.specs.Fmt.{signed_decimal}
 use Rattle.std.specs.Int.{is_negative}
 use Rattle.cvl_base.proofs.Descriptors.{abs_pos}
-use Rattle.cvl_base.proofs.Lists.{sum-cons}
-use Rattle.cvl_base.proofs.Nests.{nest-fits}
 use Rattle.cvl_base.specs.declared.fault.Fault.{Fault}
 use Rattle.cvl_base.specs.declared.fault.FaultNo.TheVariants as no
 use Rattle.cvl_base.specs.Descriptors.{descriptor_within}
@@ -24,8 +22,9 @@ use Rattle.text_parts.specs.Rooms.{most_bytes}
 use Rattle.value_texts.specs.Texts.{boolean_text, nest_text, vector_text}
 use Rattle.c_calls.specs.Calls.{lengths_of}
 use Rattle.c_calls.specs.NestedTexts.{segments_text}
-use Rattle.call_reader.proofs.NestedMarks.{cut-joined}
 use Rattle.call_laws.proofs.TwoParts.{from_value}
+use Rattle.call_laws.proofs.Cuts.{nest-joined, sum-lengths}
+use Rattle.call_laws.proofs.Sending.{unless-Ok}
 use Rattle.step_laws.specs.TextParts.{PlacedAlone, TextPart, items_of}
 use Rattle.step_laws.specs.TextSteps.{AreSegments, IsMadeBySteps, IsTooShortBySteps, Makes, OfBooleanSegments, OfBooleans, OfIntegerSegments, OfIntegers, Puts}
 use Rattle.step_laws.specs.TextSteps.{booleans_text, integers_text, nested_text, text_piece}
@@ -82,17 +81,6 @@ all-booleans start made few =
 
 -- ---- segments
 
-has-none : {Y : Type 0} (o : Option Fault) (r : Result Y Fault) (z : Y) → unless o r ≡ Ok z → r ≡ Ok z
-has-none (Some f) r z is = cc
-has-none None r z is = is
-
-sum-lengths : {X : Type 0} (lists : List (List X)) → sum (map length lists) ≡ length (joined lists)
-sum-lengths [] = refl
-sum-lengths (xs ∷ lists) = omega (arith, sum-cons (length xs) (map length lists), sum-lengths lists, length-append xs (joined lists))
-
-nest-joined : {X : Type 0} (lists : List (List X)) → nest (map length lists) (joined lists) ≡ Ok lists
-nest-joined lists = nest-fits (map length lists) (joined lists) (sum-lengths lists) ∙ ap Ok (cut-joined lists)
-
 module _ {X : Type 0} (text_of : X → List ℕ) where
   abbrev lengths : List (List X) → List ℤ
   lengths segments = map (λ xs. pos (length xs)) segments
@@ -108,7 +96,7 @@ module _ {X : Type 0} (text_of : X → List ℕ) where
       let zs = lengths segments in
       let inside = past (nat_lt most_places (length zs)) (fault no.TooLong) (descriptor_within most_places zs) ns is in
       let few = fault_if (nat_lt most_places (sum (map unsigned_abs zs))) (fault no.TooLong) (Ok (map unsigned_abs zs)) in
-      let made = has-none (option_map (fault_at no.NegativeLength) (position is_negative zs)) few ns inside in
+      let made = (unless-Ok (option_map (fault_at no.NegativeLength) (position is_negative zs)) few ns inside).1 in
       sym (past_limit (nat_lt most_places (sum (map unsigned_abs zs))) (fault no.TooLong) (map unsigned_abs zs) ns made) ∙ measured segments
 
   nested : (segments : List (List X)) → segments_text text_of (joined segments) (map length segments) ≡ Ok (nest_text text_of segments)

@@ -9,6 +9,7 @@ use Rattle.cvl_base.proofs.Lists.{sum-cons}
 use Rattle.cvl_base.specs.Lists.{joined}
 use Rattle.text_parts.specs.Pieces.{inside_of, last_piece_of, opening, piece_of}
 use Rattle.text_parts.specs.Places.{piece_length, text_length}
+use Rattle.text_parts.proofs.Pieced.{same-length}
 use Rattle.value_texts.specs.Texts.{vector_text}
 
 -- the pieces of parts whose texts have this between their brackets, from this place on, with the last bracket
@@ -16,10 +17,6 @@ abbrev pub pieces_from : ℕ → List (List ℕ) → List ℕ
 pieces_from place [] = []
 pieces_from place (j ∷ []) = last_piece_of place j
 pieces_from place (j ∷ i ∷ js) = piece_of place j ++ pieces_from (place + length (piece_of place j)) (i ∷ js)
-
-pub same-length : (place : ℕ) (inside : List ℕ) → length (piece_of place inside) ≡ length (piece_of 0 inside)
-same-length place [] = refl
-same-length place (b ∷ bs) = refl
 
 -- how many bytes a part's piece has
 abbrev pub lengths_of_pieces : List (List ℕ) → List ℕ

@@ -20,6 +20,7 @@ use Rattle.part_records.specs.Places.{Layout}
 use Rattle.text_parts.specs.Pieces.{inside_of, last_piece_of, piece_in, piece_of}
 use Rattle.text_parts.specs.Places.{piece_length, placed_of, text_layout_by, text_length}
 use Rattle.text_parts.specs.Rooms.{most_bytes}
+use Rattle.text_parts.proofs.Pieced.{same-length}
 use Rattle.value_texts.specs.Texts.{vector_text}
 use Rattle.c_calls.specs.Told.{FrontTold, Told, done, front_of}
 use Rattle.c_calls.specs.declared.status.CvlStatus.{CvlStatus}
@@ -30,7 +31,7 @@ use Rattle.step_laws.proofs.Answered.{past_limit}
 use Rattle.step_laws.proofs.Made.{each-made, in-front, laid-out, not-in-front, past, too-short}
 use Rattle.step_laws.proofs.Packed.{ends, length-ranges}
 use Rattle.step_laws.proofs.Parted.{alike, keeps}
-use Rattle.step_laws.proofs.TextPieces.{HasText, between, last-long, lengths_of_pieces, piece-long, pieces-long, pieces_from, same-length, text-of-all, text-some, within}
+use Rattle.step_laws.proofs.TextPieces.{HasText, between, last-long, lengths_of_pieces, piece-long, pieces-long, pieces_from, text-of-all, text-some, within}
 
 -- ---- where the pieces go
 

@@ -17,7 +17,7 @@ use Rattle.step_laws.proofs.RangesMade.{ends-within}
 use Rattle.step_laws.proofs.SendersBySteps.{ranged}
 use Rattle.step_laws.specs.RangeParts.{BeginAt, RangePart, room_of}
 use Rattle.step_laws.specs.SenderSteps.{Turns}
-use Rattle.step_laws.proofs.TurnedValues.{transpose_there}
+use Rattle.transposes.proofs.Sources.{transpose_there}
 use Rattle.transposes.specs.Transposes.{transpose_of, transpose_range_of}
 
 module _ {X : Type 0} (rows columns : ℕ) (source values : List X) (is : transpose_of rows columns source ≡ Ok values) (long : length values ≡ length source)

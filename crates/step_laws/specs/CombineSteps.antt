@@ -1,6 +1,6 @@
 -- The steps of combining permutes, counts and exact sums by place in parts, each by what its export is proved to do.
 -- Source: Blelloch's combining send, and his reduce in parts at each place of it.
-use Rattle.std.specs.Prelude.{◌≡◌, ℕ, ℤ, pos, ◌+ℤ◌, Bool, List, [], length, Ok}
+use Rattle.std.specs.Prelude.{◌≡◌, ℕ, ℤ, pos, ◌+ℤ◌, Bool, List, [], length}
 use Rattle.c_calls.specs.Calls.{by_operator, in_limit}
 use Rattle.c_calls.specs.declared.status.CvlStatus.{CvlStatus}
 use Rattle.c_calls.specs.Numbers.{bool_binary, int_monoid}

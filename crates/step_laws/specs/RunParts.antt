@@ -1,9 +1,8 @@
 -- What the parts of a call on runs of equal neighbours have of their own. A vector is cut into parts at any places: a segment may begin in
 -- one part and go on in others, and so may a run, which belongs to the part in which it begins.
 -- Source: reduce_by_key of Thrust over tiles; how segments are cut is this library's.
-use Rattle.std.specs.Prelude.{◌≡◌, ◌+◌, ◌<◌, ℕ, ℤ, List, [], ◌∷◌, ◌++◌, drop, length, map, sum}
-use Rattle.std.specs.List.{All, AllZip}
-use Rattle.part_records.specs.Places.{Layout}
+use Rattle.std.specs.Prelude.{◌≡◌, ◌+◌, ◌<◌, ℕ, ℤ, List, [], ◌∷◌, ◌++◌, length, map, sum}
+use Rattle.std.specs.List.{All}
 use Rattle.segment_parts.specs.Reduces.{but_last}
 use Rattle.step_laws.specs.PackSteps.{ranges_of}
 use Rattle.step_laws.specs.ReduceParts.{ArePartsOf, ReducePart}

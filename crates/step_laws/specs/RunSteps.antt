@@ -1,6 +1,6 @@
 -- The steps of runs of equal neighbours in parts, each by what its export is proved to do. The whole vector is there for each part to read.
 -- Source: reduce_by_key of Thrust over tiles; the parts are this library's.
-use Rattle.std.specs.Prelude.{◌≡◌, ◌+◌, ℕ, ℤ, pos, Bool, List, length, map}
+use Rattle.std.specs.Prelude.{◌≡◌, ◌+◌, ℕ, pos, Bool, List, length, map}
 use Rattle.std.specs.List.{AllZip}
 use Rattle.c_calls.specs.Told.{FrontTold, RoomTold, Told, done, front_of}
 use Rattle.c_calls.specs.declared.status.CvlStatus.{CvlStatus}

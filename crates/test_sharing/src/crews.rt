@@ -1,8 +1,5 @@
 //! A crew whose workers make the pieces of a list, and the list that is gathered from them.
 
-ghost use Rattle.std.specs.Prelude.{◌≤◌, length};
-ghost use Rattle.cvl_base.specs.Limits.{most_elements};
-
 use crate::counter::Counter;
 use crate::tiles::CountedTiles;
 use boards::{Claim, ScanBoard, ScanSeat, Tiles};

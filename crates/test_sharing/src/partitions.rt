@@ -1,6 +1,6 @@
 //! Partitions on several threads.
 
-ghost use Rattle.std.specs.Prelude.{◌≡◌, ◌%◌};
+ghost use Rattle.std.specs.Prelude.{◌%◌};
 
 use cvl_base::{Memory, NoResources};
 use digit_partitions::{Digit, partition_by_threads};

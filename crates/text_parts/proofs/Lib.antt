@@ -1,3 +1,3 @@
 mod Numbered
-mod Pieced
+pub mod Pieced
 mod Taken

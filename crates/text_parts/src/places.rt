@@ -5,7 +5,7 @@ ghost use Rattle.cvl_base.specs.declared.fault.FaultNo.TheVariants as no;
 ghost use Rattle.cvl_base.specs.Faults.{fault};
 ghost use Rattle.cvl_base.specs.Folds.{scan_of};
 ghost use Rattle.cvl_base.specs.Gives.{fault_if};
-ghost use Rattle.part_records.specs.Places.{fitted, layout, layout_by, layout_or};
+ghost use Rattle.part_records.specs.Places.{fitted, layout, layout_or};
 ghost use Rattle.text_parts.specs.Places.{placed_by, size_layout_by, text_layout_by};
 ghost use Rattle.text_parts.specs.Rooms.{most_bytes};
 

@@ -1,5 +1,5 @@
 -- A range of the places of a transpose: what is left of a column, whole columns, and the beginning of one; and what is then in the range.
-use Rattle.std.proofs.Common.{◌≡◌, ◌∙◌, ℕ, ◌+◌, ◌-◌, ◌*◌, ◌/◌, ◌<◌, ◌≤◌, inl, inr, min, List, get_or, length, take, drop, sym, ap, arith, length-append, length-take-le, length-drop, get_or-take}
+use Rattle.std.proofs.Common.{◌≡◌, ◌∙◌, ℕ, ◌+◌, ◌-◌, ◌*◌, ◌/◌, ◌<◌, ◌≤◌, inl, inr, min, List, get_or, length, take, drop, ap, arith, length-append, length-take-le, length-drop, get_or-take}
 use Rattle.std.proofs.Common.{◌++◌}
 use borrow.Rule.Slice.PartMut.{put_mid}
 use Rattle.std.proofs.Math.Nat.{div-mul-le_self, lt-div-mul-add, mul-le-mul_left}

@@ -1,4 +1,4 @@
 mod ColumnRuns
 mod Moved
 mod Shapes
-mod Sources
+pub mod Sources

@@ -6,7 +6,7 @@ use Rattle.std.specs.Option.{ok_or}
 use Rattle.std.proofs.Math.Nat.{div-add-mod, mul-le-mul_left}
 use Rattle.std.proofs.lemmas.Bool.Decides.{leb_tells}
 use Rattle.std.proofs.lemmas.Bool.{le-ltb}
-use Rattle.std.proofs.lemmas.List.{get_or-map, get_or_default, length-map, same_lists}
+use Rattle.std.proofs.lemmas.List.{get_or-map, get_or_default, length-map, nil_from_length, same_lists}
 use Rattle.std.proofs.lemmas.List.FromFn.{get_or-map-range_with_len, length-map-range_with_len}
 use Rattle.std.proofs.lemmas.Nat.{mod_below}
 use Rattle.std.proofs.lemmas.Option.{slice_get-get_or}
@@ -70,10 +70,6 @@ module _ (rows columns i : ℕ) (lt : i < rows * columns) where
     | inl h ↦ absurd (omega (arith, lt, mul-le-mul_left rows h.1, div-add-mod i rows))
     | inr h ↦ h.1
   ]
-
-nothing : {X : Type 0} (xs : List X) → length xs ≡ 0 → xs ≡ []
-nothing [] none = refl
-nothing (x ∷ xs) none = absurd (omega (arith, none))
 
 module _ {X : Type 0} (rows columns : ℕ) (xs : List X) (shape : rows * columns ≡ length xs) where
   abbrev source : ℕ → ℕ
@@ -141,7 +137,7 @@ module _ {X : Type 0} (rows columns : ℕ) (xs : List X) (shape : rows * columns
   pub no_range : (lowest : ℕ) (now : List X) → lowest + length now ≤ length xs → length now ≡ 0 → transpose_range_of rows columns lowest (length now) xs ≡ Ok now
   no_range lowest now within none =
       let all = transpose_there in
-      in_range lowest (length now) all.values within all.is ∙ ap Ok (ap (λ k. take k (drop lowest all.values)) none ∙ sym (nothing now none))
+      in_range lowest (length now) all.values within all.is ∙ ap Ok (ap (λ k. take k (drop lowest all.values)) none ∙ sym (nil_from_length now none))
 
   pub range_is : (lowest : ℕ) (now : List X) → lowest + length now ≤ length xs → 0 < length now → AreTurned rows columns lowest xs now
       → transpose_range_of rows columns lowest (length now) xs ≡ Ok now

@@ -1,6 +1,6 @@
 //! The text of values.
 
-ghost use Rattle.std.specs.Prelude.{◌≡◌, ◌++◌, length, map, take, unsigned_abs, IsOk, Ok, OnOk, OnErr};
+ghost use Rattle.std.specs.Prelude.{◌≡◌, length, map, take, unsigned_abs, IsOk, Ok, OnOk, OnErr};
 ghost use Rattle.std.specs.Option.{ForSome, option_copied};
 ghost use Rattle.value_texts.specs.Texts.{Appends, after_bytes, cut_text, text_of, value_text};
 

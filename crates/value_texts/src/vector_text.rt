@@ -1,6 +1,6 @@
 //! The text of vectors.
 
-ghost use Rattle.std.specs.Prelude.{◌≡◌, ◌+◌, ◌*◌, ◌≤◌, ◌++◌, codes, length, take, drop, vec_len, vec_capacity, IfOk, IsOk, OnOk};
+ghost use Rattle.std.specs.Prelude.{◌≡◌, ◌+◌, ◌*◌, ◌≤◌, ◌++◌, codes, length, take, drop, vec_len, vec_capacity, IfOk, IsOk};
 ghost use Rattle.value_texts.specs.Texts.{Appends, spaced, vector_text};
 
 use crate::elements::ElementTexts;

@@ -1,4 +1,5 @@
-use Rattle.call_laws.proofs.RunsInParts.{begins, goes_on, longer, numbers-append, runs_in-append}
+use Rattle.run_lengths.proofs.Fronts.{numbers-append}
+use Rattle.call_laws.proofs.RunsInParts.{begins, goes_on, longer, runs_in-append}
 use Rattle.call_laws.proofs.runs.runs_in_parts.Goals as goal
 
 pub returns : goal.returns

@@ -1,4 +1,4 @@
-use Rattle.std.proofs.Common.{◌≡◌, ◌∙◌, ◌+ℤ◌, ap, length, pos, replicate}
+use Rattle.std.proofs.Common.{◌∙◌, ◌+ℤ◌, ap, length, pos, replicate}
 use Rattle.combining_permutes.specs.CombiningPermutes.{combine_of}
 use Rattle.exact_combines.specs.ExactCombines.{exact_sums_of}
 use Rattle.combine_parts.proofs.Zeros.{answers_same, sums_from_zeros}

@@ -1,4 +1,4 @@
-use Rattle.std.proofs.Common.{◌≡◌, ◌∙◌, ◌+ℤ◌, Ok, Err, ap, length, pos, replicate, subst, sym}
+use Rattle.std.proofs.Common.{◌≡◌, ◌∙◌, ◌+ℤ◌, Ok, Err, pos, replicate, subst, sym}
 use Rattle.std.specs.Prelude.{MatchResult}
 use Rattle.combining_permutes.specs.CombiningPermutes.{combine_of}
 use Rattle.combine_parts.proofs.OwnTold.{own_told}

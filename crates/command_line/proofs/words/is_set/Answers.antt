@@ -1,4 +1,4 @@
-use Rattle.command_line.proofs.Cited.{◌∙◌, ap, sym, codes, bytes_eq, unwrap_or, [], Option, found_of, first_value-rows, Text}
+use Rattle.command_line.proofs.Cited.{◌∙◌, ap, codes, bytes_eq, unwrap_or, [], Option, found_of, first_value-rows, Text}
 use Rattle.command_line.proofs.words.is_set.Goals as goal
 
 pub returns-in-Some : goal.returns-in-Some

@@ -1,5 +1,5 @@
 use Rattle.command_line.proofs.Cited.{◌∙◌, ap, sym, codes, texts}
-use Rattle.command_line.specs.Reads.{explain_given, is_set_in, number_given, number_in}
+use Rattle.command_line.specs.Reads.{is_set_in, number_given, number_in}
 use Rattle.command_line.proofs.Defaults.{explain_by_default, same_number, tile_by_default, workers_by_default}
 use Rattle.command_line.proofs.words.read_words.Goals as goal
 

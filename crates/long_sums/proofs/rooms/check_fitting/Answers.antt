@@ -1,6 +1,4 @@
 use Rattle.std.proofs.Common.{◌≡◌, ◌∙◌, false, ap, arith, get_or, pos, sym, Err}
-use Rattle.cvl_base.specs.declared.fault.FaultNo.TheVariants.{Overflow}
-use Rattle.cvl_base.specs.Faults.{fault_at}
 use Rattle.cvl_base.specs.ItemWords.{is_number}
 use Rattle.long_sums.proofs.Passed.{all_pass, first_failing}
 use Rattle.long_sums.proofs.rooms.check_fitting.Goals as goal

@@ -1,4 +1,4 @@
-use Rattle.std.proofs.Common.{◌≡◌, ◌∙◌, ap, arith, length, subst, sym, None, Ok}
+use Rattle.std.proofs.Common.{◌≡◌, ◌∙◌, ap, arith, length, subst, None}
 use Rattle.cvl_base.specs.Permutes.{all_destinations, first_fault, wrongs}
 use Rattle.cvl_base.specs.Rooms.{in_room}
 use Rattle.cvl_base.proofs.Rooms.{fits}

@@ -1,4 +1,4 @@
-use Rattle.std.proofs.Common.{◌≡◌, ◌∙◌, Err, Ok, ap, arith, drop, length, map, not, sym}
+use Rattle.std.proofs.Common.{◌≡◌, ◌∙◌, Err, Ok, ap, drop, length, map, not, sym}
 use Rattle.std.proofs.lemmas.List.{length-map}
 use Rattle.cvl_base.proofs.Nests.{length-cut}
 use Rattle.cvl_base.proofs.Rooms.{differs, told}
@@ -9,8 +9,8 @@ use Rattle.cvl_base.specs.Integers.{sum_of}
 use Rattle.cvl_base.specs.Nests.{cut_of}
 use Rattle.cvl_base.specs.Rooms.{in_room}
 use Rattle.run_lengths.specs.Runs.{run_count_of}
-use Rattle.run_parts.proofs.Lasts.{length-join_last}
 use Rattle.segment_parts.specs.Reduces.{join_last}
+use Rattle.segment_parts.proofs.Starts.{length-join_last}
 use Rattle.run_parts.proofs.counts.part_run_counts_over.Goals as goal
 
 pub returns-in_err-check_agree : goal.returns-in_err-check_agree

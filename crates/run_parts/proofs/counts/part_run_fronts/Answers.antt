@@ -1,4 +1,4 @@
-use Rattle.std.proofs.Common.{◌≡◌, ◌∙◌, ◌≤◌, ◌+◌, ap, arith, drop, length, nat_lt, pos, rules, sym, w32, Ok}
+use Rattle.std.proofs.Common.{◌∙◌, ◌≤◌, ◌+◌, ap, arith, drop, length, nat_lt, pos, rules, sym, w32, Ok}
 use Rattle.std.proofs.lemmas.Bool.{le-ltb, ltb-false}
 use Rattle.std.proofs.lemmas.Int.{to_z_pos}
 use Rattle.std.proofs.lemmas.List.{length-drop}
@@ -7,9 +7,9 @@ use Rattle.cvl_base.specs.Faults.{fault}
 use Rattle.cvl_base.specs.Gives.{fault_if}
 use Rattle.cvl_base.specs.Limits.{most_places}
 use Rattle.run_lengths.specs.Runs.{runs_of}
+use Rattle.run_lengths.proofs.Counted.{most_runs}
 use Rattle.run_parts.specs.Runs.{in_front_of, range_of, runs_behind}
 use Rattle.run_parts.proofs.Ranges.{by-ends, length-range}
-use Rattle.run_parts.proofs.Written.{most_runs}
 use Rattle.run_parts.proofs.counts.part_run_fronts.Goals as goal
 
 pub overflow_cast-result : goal.overflow_cast-result

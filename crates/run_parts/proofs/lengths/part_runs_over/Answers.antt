@@ -1,10 +1,11 @@
-use Rattle.std.proofs.Common.{◌≡◌, ◌∙◌, ◌≤◌, ◌+◌, ap, arith, drop, length, sym, true}
+use Rattle.std.proofs.Common.{◌≡◌, ◌∙◌, ◌≤◌, ◌+◌, ap, arith, length, sym, true}
 use Rattle.std.proofs.lemmas.Bool.{ltb-false}
 use Rattle.cvl_base.specs.Gives.{◌>>=◌}
 use Rattle.cvl_base.specs.Rooms.{at_front, count_or}
+use Rattle.run_lengths.proofs.Counted.{most_runs}
+use Rattle.run_lengths.proofs.Fronts.{at_front-fits}
 use Rattle.run_parts.specs.Runs.{begin_or, lengths_of_runs, run_lengths_of}
 use Rattle.run_parts.proofs.PartRuns.{begin-is, fits-call, front, head_fits, left_of_head, long_behind, long_left, many, mid-is, part_runs, rest, within}
-use Rattle.run_parts.proofs.Written.{at_front-fits, most_runs}
 use Rattle.segment_parts.specs.Reduces.{is_part}
 use Rattle.run_parts.proofs.lengths.part_runs_over.Goals as goal
 

@@ -1,4 +1,4 @@
-use Rattle.std.proofs.Common.{◌≡◌, ◌∙◌, of_z, to_z, ◌-◌, ap, arith, length, pos, set, get_or, w32}
+use Rattle.std.proofs.Common.{◌≡◌, ◌∙◌, of_z, to_z, ◌-◌, ap, arith, length, pos, set, w32}
 use Rattle.std.proofs.lemmas.Int.{to_z-of_z}
 use Rattle.cvl_base.specs.Integers.{sum_of}
 use Rattle.run_parts.proofs.Lasts.{last-set}

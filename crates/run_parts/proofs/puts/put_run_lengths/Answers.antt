@@ -1,4 +1,4 @@
-use Rattle.std.proofs.Common.{◌≡◌, ◌∙◌, ◌≤◌, ap, arith, pos, rules, w32, sym, length, to_z, Ok}
+use Rattle.std.proofs.Common.{◌∙◌, ◌≤◌, ap, arith, pos, rules, w32, sym, to_z, Ok}
 use Rattle.std.proofs.lemmas.Int.{to_z_pos}
 use Rattle.cvl_base.proofs.Rooms.{told}
 use Rattle.cvl_base.specs.Integers.{sum_of}

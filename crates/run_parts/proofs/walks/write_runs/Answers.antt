@@ -1,8 +1,9 @@
-use Rattle.std.proofs.Common.{rules, ◌≡◌, ◌∙◌, ◌+◌, ◌≤◌, ◌++◌, ap, arith, drop, length, subst, sym, Ok}
+use Rattle.std.proofs.Common.{rules, ◌≡◌, ◌∙◌, ◌+◌, ◌≤◌, ap, arith, length, subst}
 use Rattle.cvl_base.specs.Rooms.{Overwrites, at_front}
 use Rattle.run_lengths.specs.Runs.{runs_of}
+use Rattle.run_lengths.proofs.Counted.{most_runs}
 use Rattle.run_parts.specs.Runs.{lengths_of_runs}
-use Rattle.run_parts.proofs.Written.{front_put, in_front, length-lengths, lengths-are, most_runs, rest_kept}
+use Rattle.run_parts.proofs.Written.{front_put, in_front, length-lengths, lengths-are, rest_kept}
 use Rattle.run_parts.proofs.walks.write_runs.Goals as goal
 
 pub overflow_add-result : goal.overflow_add-result

@@ -1,7 +1,7 @@
-use Rattle.std.proofs.Common.{◌≡◌, ◌∙◌, ◌<◌, ◌≤◌, ◌+◌, ◌-◌, min, ap, arith, length, pos, rules, sym, to_z, w32}
+use Rattle.std.proofs.Common.{◌∙◌, ◌<◌, ◌≤◌, ◌+◌, min, ap, arith, length, pos, rules, to_z, w32}
 use Rattle.std.proofs.lemmas.Int.{to_z_pos}
+use Rattle.run_lengths.proofs.Counted.{most_runs}
 use Rattle.run_parts.proofs.InSegments.{counted_more, each_counted, segment_long, segment_of}
-use Rattle.run_parts.proofs.Written.{most_runs}
 use Rattle.run_parts.proofs.walks.write_segment_counts.Goals as goal
 
 pub overflow_cast-out : goal.overflow_cast-out

@@ -1,5 +1,5 @@
-use Rattle.std.proofs.Common.{◌≡◌, ◌<◌, ◌+◌, ap, arith, length}
-use Rattle.run_parts.proofs.InSegments.{all_counted, all_written, segment_long, written_more}
+use Rattle.std.proofs.Common.{◌<◌, ◌+◌, ap, arith, length}
+use Rattle.run_parts.proofs.InSegments.{all_counted, all_written, written_more}
 use Rattle.run_parts.proofs.walks.write_segment_runs.Goals as goal
 
 pub loop-s-preserved : goal.loop-s-preserved

@@ -1,4 +1,4 @@
-use Rattle.std.proofs.Common.{arith, rules, ◌≡◌, ◌≤◌, ◌++◌, ◌∙◌, [], List, ℕ, length, take, ap, sym, subst, append-nil}
+use Rattle.std.proofs.Common.{arith, ◌≡◌, ◌++◌, ◌∙◌, [], List, ℕ, length, take, ap, sym, append-nil}
 use Rattle.std.specs.Prelude.{◌==◌, true}
 use Rattle.std.specs.List.{concat}
 use Rattle.std.proofs.lemmas.Bool.Decides.{nat_tests}

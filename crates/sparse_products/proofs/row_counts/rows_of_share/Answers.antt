@@ -1,10 +1,8 @@
-use Rattle.sparse_products.proofs.Cited.{◌≡◌, ◌∙◌, ℕ, ◌-◌, ◌≤◌, List, length, map, take, unsigned_abs, ap, arith, inl, inr, sum, leb_tells, length-map, take-take, take_all, sum_by-take-le, start_of}
+use Rattle.sparse_products.proofs.Cited.{◌≡◌, ◌∙◌, ℕ, ◌-◌, List, length, map, unsigned_abs, ap, arith, inl, inr, sum, leb_tells, length-map, take_all, start_of}
 use Rattle.sparse_products.proofs.Cited.{length_here}
+use Rattle.segdes.proofs.Searched.{start_of_mono}
 use Rattle.sharing.specs.Shares.{share_of_first}
 use Rattle.sparse_products.proofs.row_counts.rows_of_share.Goals as goal
-
-later : (lengths : List ℕ) (a b : ℕ) → a ≤ b → start_of lengths a ≤ start_of lengths b
-later lengths a b le = omega (arith, sum_by-take-le (λ x. x) (take b lengths) a, ap sum (take-take a b lengths le))
 
 -- all entries, as the share counts them
 all_entries : (lengths : List ℕ) (n entries : ℕ) → n ≡ length lengths → entries ≡ sum lengths → entries ≡ start_of lengths n - start_of lengths 0
@@ -38,5 +36,5 @@ returns-else-start-place c =
       in_order = omega arith;
       within = c.loop-rows.invariant.within;
       front = λ s _ lt. omega (arith, place, c.loop-rows.invariant.front s lt);
-      back = λ s ge lt. omega (arith, place, c.loop-rows.invariant.begins, later lengths rows s ge);
+      back = λ s ge lt. omega (arith, place, c.loop-rows.invariant.begins, start_of_mono lengths rows s ge);
     }

@@ -1,4 +1,4 @@
-use Rattle.std.proofs.Common.{◌≡◌, ◌∙◌, ◌+◌, ◌<◌, ◌≤◌, ℕ, ℤ, Bool, List, None, Ok, Result, ap, length, refl, subst, sym, zip}
+use Rattle.std.proofs.Common.{◌≡◌, ◌∙◌, ◌<◌, ◌≤◌, ℕ, ℤ, List, Ok, Result, ap, length, refl, subst, sym, zip}
 use Rattle.std.specs.List.{AllZip}
 use Rattle.c_calls.specs.Calls.{by_operator, in_limit}
 use Rattle.c_calls.specs.Numbers.{bool_binary, int_monoid}
@@ -12,13 +12,12 @@ use Rattle.cvl_base.specs.Gives.{unless}
 use Rattle.cvl_base.specs.Limits.{most_places}
 use Rattle.cvl_base.specs.Scans.{bool_join_of, int_join_of}
 use Rattle.part_calls.specs.CombineRanges.{combine_range_of}
-use Rattle.permute_walks.specs.Indices.{first_outside}
 use Rattle.step_laws.proofs.Answered.{within}
 use Rattle.step_laws.proofs.AnyOrder.{in_any_order}
 use Rattle.step_laws.proofs.CombinedInRanges.{JoinsRange, looked_inside, ranges_all, was_cut}
-use Rattle.step_laws.proofs.Parted.{as-long, each-also}
+use Rattle.step_laws.proofs.Parted.{as-long}
 use Rattle.step_laws.proofs.RangesOfRoom.{cut_shares}
-use Rattle.step_laws.specs.CombineParts.{BeginAt, Block, HaveIndices, HaveRanges, RoomAlone, Share, elements_of, index_of, room_of}
+use Rattle.step_laws.specs.CombineParts.{Block, HaveIndices, HaveRanges, RoomAlone, Share, elements_of, index_of, room_of}
 use Rattle.step_laws.specs.CombineSteps.{BoolJoinsRange, IntJoinsRange, LooksAtIndices}
 use Rattle.step_laws.proofs.combines.combines_by_ranges.Goals as goal
 

@@ -1,4 +1,4 @@
-use Rattle.std.proofs.Common.{◌∙◌, ◌+ℤ◌, ◌≡◌, ◌≤◌, ap, length, refl, subst, sym, zip, IsTrue}
+use Rattle.std.proofs.Common.{◌∙◌, ◌+ℤ◌, ◌≡◌, ◌≤◌, ap, length, refl, subst, sym, zip}
 use Rattle.std.specs.List.{AllPass, AllZip}
 use Rattle.c_calls.specs.Told.{Told, done}
 use Rattle.combine_parts.specs.Cuts.{may_cut}

@@ -1,4 +1,4 @@
-use Rattle.std.proofs.Common.{pos, subst, Ok}
+use Rattle.std.proofs.Common.{subst}
 use Rattle.c_calls.specs.Calls.{by_operator}
 use Rattle.c_calls.specs.Told.{RoomTold, done}
 use Rattle.cvl_base.specs.Scans.{int_join_of, int_unit_of}
