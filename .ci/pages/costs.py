@@ -96,14 +96,18 @@ def measured_lines(subject):
 
 
 def shown_times(times, what, length):
-    """A row of a page, each number under the name of its column; none if the loop or four threads were not measured."""
-    found = {column: re.findall(rf"(?:^|, )(?:{words}) ([\d.]+)(?=,|$)", times) for column, words in COLUMNS.items()}
+    """A row of a page, each number under the name of its column, and marked if it was far worse in another turn; none if the loop or
+    four threads were not measured."""
+    found = {column: re.findall(rf"(?:^|, )(?:{words}) ([\d.]+)(~?)", times) for column, words in COLUMNS.items()}
     if not found["4 threads"] or not found["Loop"]:
         return []
-    nanos = {column: min(map(float, times)) for column, times in found.items()}
-    cells = {column: f"{time / 1000:.1f}" if time < 10_000 else f"{time / 1000:,.0f}" for column, time in nanos.items()}
-    share = nanos["4 threads"] / nanos["Loop"]
-    return [{"Call": what, "Elements": f"{int(length):,}", **cells, "4 threads / loop": f"{share:.2f}"}]
+    best = {column: min((float(time), mark) for time, mark in times) for column, times in found.items()}
+    cells = {
+        column: mark + (f"{time / 1000:.1f}" if time < 10_000 else f"{time / 1000:,.0f}") for column, (time, mark) in best.items()
+    }
+    (four, unsteady), (loop, also) = best["4 threads"], best["Loop"]
+    share = f"{max(unsteady, also)}{four / loop:.2f}"
+    return [{"Call": what, "Elements": f"{int(length):,}", **cells, "4 threads / loop": share}]
 
 
 def wanted_times(entry):

@@ -102,13 +102,14 @@ def _times(entry):
 def _costs(entry):
     """A table of the entry's times beside those of a plain loop."""
     lines = [
-        [what, f"{length:,}", PERFORMANCE.micros(alone), PERFORMANCE.micros(four), PERFORMANCE.micros(loop), f"{four / loop:.2f}"]
+        [what, f"{length:,}", *map(PERFORMANCE.micros, (alone, four, loop)), PERFORMANCE.marked(f"{four / loop:.2f}", four, loop)]
         for what, length, alone, four, loop in _times(entry) if four and loop
     ]  # fmt: skip
     if not lines:
         return []
     shown = PERFORMANCE.table(["Call", "Elements", "1 thread", "4 threads", "Loop", "4 threads / loop"], lines)
     intro = "Microseconds, beside a plain loop in C++ on one thread, without a branch if that is faster; [Performance](../performance.md) has the machine and the other calls."
+    intro += " `~` marks a time that was a fifth worse in another turn." * ("~" in shown)
     return ["## What it costs", intro, shown.rstrip()]
 
 
