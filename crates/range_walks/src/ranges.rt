@@ -15,6 +15,7 @@ ghost use Rattle.fresh.specs.Places.{with_items};
 use crate::plain::{scan_into, sum_from};
 use crate::range_parts::parts_of_range;
 use crate::readings::Reading;
+use crate::segment_scans::scan_of_segment;
 use crate::segment_sums::sum_of_segment;
 use crate::short_reduces::reduces_of_groups;
 use crate::short_scans::scans_of_groups;
@@ -68,7 +69,7 @@ pub(crate) fn scans_in_turn<M: Monoid, X: Copy, E: Reading<X, M::Item>>(
     let mut rest = xs;
     for length in lengths {
         let (segment, others) = rest.split_at((*length as usize).min(rest.len()));
-        run = scan_into::<M, X, E>(run, M::unit(), segment);
+        run = scan_of_segment::<M, X, E>(run, segment);
         rest = others;
     }
     run

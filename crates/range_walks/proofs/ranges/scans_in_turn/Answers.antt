@@ -1,4 +1,4 @@
-use Rattle.range_walks.proofs.Cited.{◌+◌, map, unsigned_abs, refl, ap, ◌∙◌, arith, length-map, scan_of, with_items}
+use Rattle.range_walks.proofs.Cited.{◌+◌, map, unsigned_abs, refl, ap, ◌∙◌, arith, length-map, with_items}
 use Rattle.range_walks.proofs.Segments.{length_here, one_long, one_scanned, read_at}
 use Rattle.range_walks.proofs.WalksLeft.{scans_walked}
 use Rattle.range_walks.proofs.ranges.scans_in_turn.Goals as goal
@@ -18,7 +18,6 @@ loop-length-preserved g c =
     let parts = c.split_at.result in
     let elements = map item parts.0.now in
     scans_walked m.join m.unit m.is_item item lengths c.args.xs.now c.args.run s now.rest.now now.run 1 n (s + 1) parts.0.now parts.1.now
-    c.scan_into-run.result c.min.result now.invariant refl (one_long lengths s n here.within here.is) c.min.ensures c.split_at.ensures.front c.split_at.ensures.back
-    (c.scan_into-run.ensures
-    ∙ ap (λ u. with_items now.run (scan_of m.join u elements)) c.unit.ensures
+    c.scan_of_segment-run.result c.min.result now.invariant refl (one_long lengths s n here.within here.is) c.min.ensures c.split_at.ensures.front c.split_at.ensures.back
+    (c.scan_of_segment-run.ensures
     ∙ ap (with_items now.run) (one_scanned m.join m.unit lengths s n elements here.within here.is (omega (arith, length-map parts.0.now item, c.split_at.ensures.front_len, c.min.ensures))))
