@@ -3,8 +3,8 @@
 //!
 //! The ending of a walk's name says what it gives: `_into` writes a run of fresh memory, `_vec` gives a vector, and no such
 //! ending means a value. `plain` has the loops over elements among which no segment starts, `ranges` the walks over segments,
-//! `segment_sums` the sum of one segment, `segment_scans` its scan, and `range_parts` cuts a range where its first segment starts.
-//! The walks over whole vectors are above, in the crate `scan_walks`.
+//! `segment_sums` the sum of one segment, `segment_scans` its scan, and `range_parts` cuts a range where its first segment
+//! starts. The walks over whole vectors are above, in the crate `scan_walks`.
 #![tactic(auto)]
 
 pub mod ends;
